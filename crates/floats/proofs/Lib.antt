@@ -1,0 +1,13 @@
+pub mod Round
+pub mod Pattern
+pub mod Ratio
+pub mod Root
+pub mod Even
+pub mod Narrow
+pub mod Extend
+pub mod Whole
+pub mod Floats
+pub mod Rows
+pub mod Laws
+pub mod Finite
+pub mod Levels
