@@ -1,0 +1,3 @@
+-- Sums in one fixed order, tables, and the searches for a largest value.
+pub mod Sums
+pub mod Search
