@@ -8,13 +8,14 @@ compare/build || built=$?
 [ "$built" != 3 ] || exit 0
 [ "$built" = 0 ] || exit "$built"
 
+all="tracker ring scan"
 made=target/compare/vectors
 rm -rf "$made"
-for what in tracker ring; do
+for what in $all; do
   target/compare/compare vectors "$what" 1 "$made/$what" 2>/dev/null
   for file in "$made/$what"/*; do
     stored=crates/${what}_suite/data/$(basename "$file")
     cmp -s "$file" "$stored" || { echo "vectors: $stored is not what the original gives" >&2; exit 1; }
   done
 done
-echo "vectors: tracker and ring are what the original gives"
+echo "vectors: $all are what the original gives"

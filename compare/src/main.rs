@@ -23,7 +23,8 @@ mod vectors;
 
 const USAGE: &str = "\
 compare vectors tracker SEED FOLDER   writes FOLDER/bands and FOLDER/cycles
-compare vectors ring SEED FOLDER      writes FOLDER/calls";
+compare vectors ring SEED FOLDER      writes FOLDER/calls
+compare vectors scan SEED FOLDER      writes FOLDER/calls and FOLDER/full";
 
 fn main() {
     let words: Vec<String> = std::env::args().skip(1).collect();

@@ -11,3 +11,35 @@ pub fn word(seed: u32, n: u64) -> u32 {
     x ^= x >> 16;
     x as u32
 }
+
+/// A stream of finite samples or levels.
+#[derive(Clone, Copy, Default)]
+pub struct Signal {
+    /// Sign and fraction of each sample come from this seed, as far as the mask lets them through.
+    pub seed: u32,
+    pub mask: u32,
+    /// The exponent is `base` and up to `spread` (a mask) more, by this seed, the same for `hold` samples.
+    pub shape: u32,
+    pub hold: u16,
+    pub base: u8,
+    pub spread: u8,
+    /// It repeats after so many samples; 0 for never.
+    pub period: u32,
+}
+
+impl Signal {
+    pub fn bits(&self, place: u64) -> u32 {
+        let n = match self.period {
+            0 => place,
+            period => place % period as u64,
+        };
+        let more = word(self.shape, n / self.hold as u64) & self.spread as u32;
+        (word(self.seed, n) & self.mask & 0x807f_ffff) | (self.base as u32 + more) << 23
+    }
+
+    pub fn samples(&self, place: u64, count: usize) -> Vec<f32> {
+        (place..place + count as u64)
+            .map(|n| f32::from_bits(self.bits(n)))
+            .collect()
+    }
+}

@@ -1,6 +1,7 @@
 //! Vectors: calls with the answers of the original. Each format is described in tests/NAME/README.md of the tree.
 
 mod ring;
+mod scan;
 mod tracker;
 
 use crate::random::Random;
@@ -14,6 +15,7 @@ pub fn write(what: &str, seed: &str, folder: &str) -> Result<(), String> {
     let files: Files = match what {
         "tracker" => tracker::files(random),
         "ring" => ring::files(random),
+        "scan" => scan::files(random),
         _ => return Err(format!("there are no vectors '{what}'")),
     };
     std::fs::create_dir_all(folder).map_err(|error| format!("{folder}: {error}"))?;
