@@ -8,7 +8,7 @@ compare/build || built=$?
 [ "$built" != 3 ] || exit 0
 [ "$built" = 0 ] || exit "$built"
 
-all="tracker ring scan"
+all="tracker ring scan fine"
 made=target/compare/vectors
 rm -rf "$made"
 for what in $all; do

@@ -24,7 +24,8 @@ mod vectors;
 const USAGE: &str = "\
 compare vectors tracker SEED FOLDER   writes FOLDER/bands and FOLDER/cycles
 compare vectors ring SEED FOLDER      writes FOLDER/calls
-compare vectors scan SEED FOLDER      writes FOLDER/calls and FOLDER/full";
+compare vectors scan SEED FOLDER      writes FOLDER/calls and FOLDER/full
+compare vectors fine SEED FOLDER      writes FOLDER/calls and FOLDER/arrays";
 
 fn main() {
     let words: Vec<String> = std::env::args().skip(1).collect();

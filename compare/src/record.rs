@@ -25,3 +25,10 @@ impl Record {
         self
     }
 }
+
+/// A polynomial in the words, modulo the largest prime below 2^32. Every step fits 64 bits.
+pub fn hash(words: impl Iterator<Item = u32>) -> u32 {
+    words.fold(1, |hash: u64, word| {
+        (hash * 16_777_619 + word as u64) % 4_294_967_291
+    }) as u32
+}

@@ -1,5 +1,7 @@
 //! Samples made by integer arithmetic alone, so that a suite repeats them from a few stored numbers.
 
+use crate::record::Record;
+
 /// A pattern that looks random, for a seed and a place. Every product fits 64 bits.
 pub fn word(seed: u32, n: u64) -> u32 {
     let low = |x: u64| x & 0xffff_ffff;
@@ -41,5 +43,12 @@ impl Signal {
         (place..place + count as u64)
             .map(|n| f32::from_bits(self.bits(n)))
             .collect()
+    }
+
+    /// 20 bytes.
+    pub fn store(&self, out: &mut Record) {
+        out.u32(self.seed).u32(self.mask).u32(self.shape);
+        out.u32(self.period).u16(self.hold);
+        out.u8(self.base).u8(self.spread);
     }
 }

@@ -1,5 +1,6 @@
 //! Vectors: calls with the answers of the original. Each format is described in tests/NAME/README.md of the tree.
 
+mod fine;
 mod ring;
 mod scan;
 mod tracker;
@@ -15,6 +16,7 @@ pub fn write(what: &str, seed: &str, folder: &str) -> Result<(), String> {
     let files: Files = match what {
         "tracker" => tracker::files(random),
         "ring" => ring::files(random),
+        "fine" => fine::files(random),
         "scan" => scan::files(random),
         _ => return Err(format!("there are no vectors '{what}'")),
     };

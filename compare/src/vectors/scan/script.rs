@@ -1,7 +1,7 @@
 //! One scan, its calls and what is stored of each.
 
 use crate::coarse::{CoarseScan, FrameAnswer, Geometry};
-use crate::record::Record;
+use crate::record::{hash, Record};
 use crate::signal::Signal;
 
 const MAKE: u8 = 1;
@@ -241,7 +241,6 @@ impl Script<'_> {
             | (fields.region.is_some() as u8) << 2
             | (self.scan.finished() as u8) << 3
             | if whole { WHOLE } else { 0 };
-        let signal = given.signal;
         let (delay, correlation) = fields.region.map_or((0, 0), |region| {
             (region.delay as u64, region.corr.to_bits())
         });
@@ -249,14 +248,8 @@ impl Script<'_> {
         let out = &mut self.stored.calls;
         out.u8(call).u8(answer).u8(flags).u8(0).u32(given.count);
         out.u64(given.number).u64(given.place);
-        out.u32(signal.seed)
-            .u32(signal.mask)
-            .u32(signal.shape)
-            .u32(signal.period);
-        out.u16(signal.hold)
-            .u8(signal.base)
-            .u8(signal.spread)
-            .u32(fields.last_peak.to_bits());
+        given.signal.store(out);
+        out.u32(fields.last_peak.to_bits());
         out.u64(fields.far_blocks)
             .u64(fields.far_sum.to_bits())
             .u64(fields.far_pushed);
@@ -294,11 +287,4 @@ impl Script<'_> {
 /// The low and the high half.
 fn halves(bits: u64) -> [u32; 2] {
     [bits as u32, (bits >> 32) as u32]
-}
-
-/// A polynomial in the words, modulo the largest prime below 2^32. Every step fits 64 bits.
-fn hash(words: impl Iterator<Item = u32>) -> u32 {
-    words.fold(1, |hash: u64, word| {
-        (hash * 16_777_619 + word as u64) % 4_294_967_291
-    }) as u32
 }
