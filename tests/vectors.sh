@@ -8,14 +8,17 @@ compare/build || built=$?
 [ "$built" != 3 ] || exit 0
 [ "$built" = 0 ] || exit "$built"
 
-all="tracker ring scan fine"
 made=target/compare/vectors
 rm -rf "$made"
-for what in $all; do
-  target/compare/compare vectors "$what" 1 "$made/$what" 2>/dev/null
-  for file in "$made/$what"/*; do
-    stored=crates/${what}_suite/data/$(basename "$file")
+hold() { # what is made, and the folder where it is stored
+  target/compare/compare vectors "$1" 1 "$made/$1" 2>/dev/null
+  for file in "$made/$1"/*; do
+    stored=$2/$(basename "$file")
     cmp -s "$file" "$stored" || { echo "vectors: $stored is not what the original gives" >&2; exit 1; }
   done
+}
+for what in tracker ring scan fine replay; do
+  hold "$what" "crates/${what}_suite/data"
 done
-echo "vectors: $all are what the original gives"
+hold demo demo
+echo "vectors: tracker, ring, scan, fine, replay and demo are what the original gives"

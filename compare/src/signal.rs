@@ -1,6 +1,23 @@
 //! Samples made by integer arithmetic alone, so that a suite repeats them from a few stored numbers.
 
+use crate::random::Random;
 use crate::record::Record;
+
+/// Every bit of sign and fraction.
+pub const SIGNED: u32 = 0x807f_ffff;
+/// Every bit of the fraction.
+pub const UNSIGNED: u32 = 0x007f_ffff;
+
+/// All zeros.
+pub const SILENCE: Signal = Signal {
+    seed: 0,
+    mask: 0,
+    shape: 0,
+    hold: 1,
+    base: 0,
+    spread: 0,
+    period: 0,
+};
 
 /// A pattern that looks random, for a seed and a place. Every product fits 64 bits.
 pub fn word(seed: u32, n: u64) -> u32 {
@@ -30,13 +47,26 @@ pub struct Signal {
 }
 
 impl Signal {
+    /// Samples like speech: loud and soft stretches of `hold` samples, 1 at the loudest.
+    pub fn speech(random: &mut Random, hold: u16) -> Signal {
+        Signal {
+            seed: random.word() as u32,
+            mask: SIGNED,
+            shape: random.word() as u32,
+            hold,
+            base: 119,
+            spread: 7,
+            period: 0,
+        }
+    }
+
     pub fn bits(&self, place: u64) -> u32 {
         let n = match self.period {
             0 => place,
             period => place % period as u64,
         };
         let more = word(self.shape, n / self.hold as u64) & self.spread as u32;
-        (word(self.seed, n) & self.mask & 0x807f_ffff) | (self.base as u32 + more) << 23
+        (word(self.seed, n) & self.mask & SIGNED) | (self.base as u32 + more) << 23
     }
 
     pub fn samples(&self, place: u64, count: usize) -> Vec<f32> {

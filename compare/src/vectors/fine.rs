@@ -5,7 +5,7 @@ use super::Files;
 use crate::delay::{DelayEstimator, FineLock, FineObservation, WindowSupport};
 use crate::random::Random;
 use crate::record::{hash, Record};
-use crate::signal::Signal;
+use crate::signal::{Signal, SIGNED, SILENCE};
 
 const MAKE: u8 = 1;
 const NEAR: u8 = 2;
@@ -38,16 +38,6 @@ const SPANS: [u16; 14] = [
 ];
 /// Above this span an array that the transform gave is too long to be stored.
 const STORED_SPAN: usize = 1000;
-const SILENCE: Signal = Signal {
-    seed: 0,
-    mask: 0,
-    shape: 0,
-    hold: 1,
-    base: 0,
-    spread: 0,
-    period: 0,
-};
-
 pub fn files(mut random: Random) -> Files {
     let mut stored = Stored::default();
     for span in SPANS {
@@ -358,7 +348,7 @@ impl Script<'_> {
 fn lively(random: &mut Random) -> Signal {
     Signal {
         seed: random.word() as u32,
-        mask: 0x807f_ffff,
+        mask: SIGNED,
         shape: random.word() as u32,
         hold: 1,
         base: 124,

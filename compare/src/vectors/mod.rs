@@ -1,6 +1,7 @@
 //! Vectors: calls with the answers of the original. Each format is described in tests/NAME/README.md of the tree.
 
 mod fine;
+mod replay;
 mod ring;
 mod scan;
 mod tracker;
@@ -16,6 +17,8 @@ pub fn write(what: &str, seed: &str, folder: &str) -> Result<(), String> {
     let files: Files = match what {
         "tracker" => tracker::files(random),
         "ring" => ring::files(random),
+        "demo" => replay::demo_files(random),
+        "replay" => replay::files(random),
         "fine" => fine::files(random),
         "scan" => scan::files(random),
         _ => return Err(format!("there are no vectors '{what}'")),

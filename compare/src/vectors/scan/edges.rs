@@ -1,10 +1,9 @@
 //! Frames that lie exactly on a limit, and one step of the last place beside it.
 
 use super::script::{Script, Stored};
-use super::streams::speech;
 use crate::coarse::FrameAnswer;
 use crate::random::Random;
-use crate::signal::Signal;
+use crate::signal::{Signal, SILENCE, UNSIGNED};
 
 /// Document 01's floors, as the original writes them.
 const MEAN_FLOOR: f64 = 3.162_277_7e-4;
@@ -39,20 +38,10 @@ fn lively(random: &mut Random) -> Signal {
     Signal {
         base: 126,
         spread: 1,
-        mask: 0x007f_ffff,
-        ..speech(random, 3)
+        mask: UNSIGNED,
+        ..Signal::speech(random, 3)
     }
 }
-
-const SILENCE: Signal = Signal {
-    seed: 0,
-    mask: 0,
-    shape: 0,
-    hold: 1,
-    base: 0,
-    spread: 0,
-    period: 0,
-};
 
 /// First and last windows that are covered, and tails of a quarter frame and one more.
 fn coverage(random: &mut Random, rate: u32, ceiling: u16, stored: &mut Stored) {

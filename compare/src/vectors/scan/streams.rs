@@ -3,13 +3,12 @@
 use super::script::{Script, Stored};
 use crate::coarse::FrameAnswer;
 use crate::random::Random;
-use crate::signal::Signal;
+use crate::signal::{Signal, UNSIGNED};
 
 const RATES: [u32; 14] = [
     8000, 8499, 8500, 9499, 11025, 12000, 16000, 22050, 32000, 44100, 48000, 88200, 96000, 192000,
 ];
 const CEILINGS: [u16; 12] = [1, 2, 7, 8, 9, 20, 31, 64, 250, 500, 1000, 4000];
-const ALL: u32 = 0x807f_ffff;
 
 fn rate(random: &mut Random) -> u32 {
     if random.once_in(3) {
@@ -24,19 +23,6 @@ fn ceiling(random: &mut Random) -> u16 {
         random.between(1, 4000) as u16
     } else {
         random.one_of(&CEILINGS)
-    }
-}
-
-/// Samples like speech: loud and soft stretches of some `hold` samples, about 1 at the loudest.
-pub fn speech(random: &mut Random, hold: u16) -> Signal {
-    Signal {
-        seed: random.word() as u32,
-        mask: ALL,
-        shape: random.word() as u32,
-        hold,
-        base: 120,
-        spread: 7,
-        period: 0,
     }
 }
 
@@ -58,7 +44,7 @@ pub fn pushes(random: &mut Random, stored: &mut Stored) {
         let small = random.one_of(&[1, 5, 9, 20]);
         let mut script = Script::new(rate, small, stored);
         let hold = script.geometry().decimation as u16 * 7;
-        let signal = speech(random, hold);
+        let signal = Signal::speech(random, hold);
         let mut index = random.below(300);
         for _ in 0..30 {
             any_call(random, &mut script, signal, &mut index);
@@ -111,7 +97,7 @@ pub fn echoes(random: &mut Random, stored: &mut Stored) {
         let geometry = script.geometry();
         let block = geometry.decimation as u64;
         let frame = block * geometry.frame as u64;
-        let far = speech(random, (block * 5) as u16);
+        let far = Signal::speech(random, (block * 5) as u16);
         let near = echo_of(random, far, -3);
         let delay = random.below(geometry.span as u64 * block);
         let start = (geometry.span as u64 + random.below(20)) * block;
@@ -187,8 +173,8 @@ fn levels(random: &mut Random, length: u32) -> Signal {
     let sort = random.below(7);
     let (mask, spread, hold, period) = match sort {
         // Loud and soft stretches; each level for itself.
-        0 | 1 => (0x007f_ffff, 7, 5, length),
-        2 => (0x007f_ffff, 0, 1, length),
+        0 | 1 => (UNSIGNED, 7, 5, length),
+        2 => (UNSIGNED, 0, 1, length),
         // Powers of two, whose sums are exact: periodic, so that lags tie; with long flat stretches.
         3 => (0, 3, 1, random.between(2, 40) as u32),
         4 => (0, 3, random.between(200, 400) as u16, length),
