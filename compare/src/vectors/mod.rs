@@ -1,5 +1,6 @@
 //! Vectors: calls with the answers of the original. Each format is described in tests/NAME/README.md of the tree.
 
+mod call;
 mod fine;
 mod replay;
 mod ring;

@@ -3,6 +3,7 @@
 use crate::coarse::{CoarseScan, FrameAnswer, Geometry};
 use crate::record::{hash, Record};
 use crate::signal::Signal;
+use crate::vectors::call::Call;
 
 const MAKE: u8 = 1;
 const FAR: u8 = 2;
@@ -52,15 +53,6 @@ impl Stored {
     }
 }
 
-/// What a call is given, beside the scan.
-#[derive(Clone, Copy, Default)]
-struct Given {
-    count: u32,
-    number: u64,
-    place: u64,
-    signal: Signal,
-}
-
 pub struct Script<'a> {
     pub scan: CoarseScan,
     stored: &'a mut Stored,
@@ -73,12 +65,7 @@ impl Script<'_> {
             scan: CoarseScan::new(rate, ceiling),
             stored,
         };
-        let given = Given {
-            count: rate,
-            number: ceiling as u64,
-            ..Given::default()
-        };
-        script.store(MAKE, 0, given);
+        script.store(Call::new(MAKE).count(rate as usize).number(ceiling as u64));
         script
     }
 
@@ -88,16 +75,7 @@ impl Script<'_> {
 
     pub fn far(&mut self, signal: Signal, place: u64, count: usize) {
         self.scan.push_far(&signal.samples(place, count));
-        self.store(
-            FAR,
-            0,
-            Given {
-                count: count as u32,
-                place,
-                signal,
-                number: 0,
-            },
-        );
+        self.store(Call::new(FAR).count(count).signal(signal, place));
     }
 
     /// Pushes up to `count` samples, less if the frame is full before. Answers how many, and whether it is full.
@@ -111,16 +89,8 @@ impl Script<'_> {
                 break;
             }
         }
-        self.store(
-            NEAR,
-            full as u8,
-            Given {
-                count: taken as u32,
-                number: first,
-                place,
-                signal,
-            },
-        );
+        let call = Call::new(NEAR).answer(full as u8);
+        self.store(call.count(taken).number(first).signal(signal, place));
         (taken, full)
     }
 
@@ -138,103 +108,71 @@ impl Script<'_> {
             FrameAnswer::Region(_) => 9,
         };
         self.stored.answers[number] += 1;
-        self.store(SCORE, number as u8, Given::default());
+        self.store(Call::new(SCORE).answer(number as u8));
         answer
     }
 
     pub fn rearm(&mut self) {
         self.scan.rearm();
-        self.store(REARM, 0, Given::default());
+        self.store(Call::new(REARM));
     }
 
     pub fn discard_near(&mut self) {
         self.scan.discard_near();
-        self.store(DISCARD, 0, Given::default());
+        self.store(Call::new(DISCARD));
     }
 
     pub fn reset(&mut self) {
         self.scan.reset();
-        self.store(RESET, 0, Given::default());
+        self.store(Call::new(RESET));
     }
 
     pub fn set_far(&mut self, signal: Signal, place: u64, blocks: u64) {
         let levels = signal.samples(place, self.geometry().envelope);
         self.scan.set_far(levels, blocks);
-        self.store(
-            SET_FAR,
-            0,
-            Given {
-                number: blocks,
-                place,
-                signal,
-                count: 0,
-            },
-        );
+        self.store(Call::new(SET_FAR).number(blocks).signal(signal, place));
     }
 
     pub fn set_near(&mut self, signal: Signal, place: u64, first_bin: u64) {
         let levels = signal.samples(place, self.geometry().frame);
         self.scan.set_near(levels, first_bin);
-        self.store(
-            SET_NEAR,
-            0,
-            Given {
-                number: first_bin,
-                place,
-                signal,
-                count: 0,
-            },
-        );
+        self.store(Call::new(SET_NEAR).number(first_bin).signal(signal, place));
     }
 
     pub fn set_far_level(&mut self, bin: u64, level: f32) {
         let slot = (bin % self.geometry().envelope as u64) as usize;
         self.scan.set_far_level(slot, level);
-        self.store_one(SET_FAR_LEVEL, slot, level.to_bits() as u64);
+        let bits = level.to_bits() as u64;
+        self.store(Call::new(SET_FAR_LEVEL).count(slot).number(bits));
     }
 
     pub fn set_near_level(&mut self, bin: usize, level: f32) {
         self.scan.set_near_level(bin, level);
-        self.store_one(SET_NEAR_LEVEL, bin, level.to_bits() as u64);
+        let bits = level.to_bits() as u64;
+        self.store(Call::new(SET_NEAR_LEVEL).count(bin).number(bits));
     }
 
     pub fn set_lag_sums(&mut self, sum: f64) {
         self.scan.set_lag_sums(sum);
-        self.store_one(SET_LAG_SUMS, 0, sum.to_bits());
+        self.store(Call::new(SET_LAG_SUMS).number(sum.to_bits()));
     }
 
     pub fn set_lag_sum(&mut self, lag: usize, sum: f64) {
         self.scan.set_lag_sum(lag, sum);
-        self.store_one(SET_LAG_SUM, lag, sum.to_bits());
+        self.store(Call::new(SET_LAG_SUM).count(lag).number(sum.to_bits()));
     }
 
     pub fn set_counts(&mut self, banked: u32, frames: u32, beyond_ceiling: bool) {
         self.scan.set_counts(banked, frames, beyond_ceiling);
-        let given = Given {
-            count: banked,
-            number: frames as u64,
-            place: beyond_ceiling as u64,
-            ..Given::default()
-        };
-        self.store(SET_COUNTS, 0, given);
+        let call = Call::new(SET_COUNTS).count(banked as usize);
+        self.store(call.number(frames as u64).place(beyond_ceiling as u64));
     }
 
-    fn store_one(&mut self, call: u8, count: usize, number: u64) {
-        self.store(
-            call,
-            0,
-            Given {
-                count: count as u32,
-                number,
-                ..Given::default()
-            },
-        );
-    }
-
-    fn store(&mut self, call: u8, answer: u8, given: Given) {
+    fn store(&mut self, call: Call) {
         self.stored.records += 1;
-        let whole =
-            call == SCORE && self.geometry().span <= WHOLE_SPAN && self.stored.whole < WHOLE_FRAMES;
+        let whole = call.kind == SCORE
+            && self.geometry().span <= WHOLE_SPAN
+            && self.stored.whole < WHOLE_FRAMES;
         let fields = self.scan.fields();
         let flags = fields.beyond_ceiling as u8
             | (fields.exhausted as u8) << 1
@@ -246,9 +184,7 @@ impl Script<'_> {
         });
 
         let out = &mut self.stored.calls;
-        out.u8(call).u8(answer).u8(flags).u8(0).u32(given.count);
-        out.u64(given.number).u64(given.place);
-        given.signal.store(out);
+        call.store(flags, out);
         out.u32(fields.last_peak.to_bits());
         out.u64(fields.far_blocks)
             .u64(fields.far_sum.to_bits())
