@@ -1,0 +1,34 @@
+// Accessors of the comparison: every field that the gate and the peak rule touch, read and set.
+#[derive(Clone, Copy)]
+pub(crate) struct Fields {
+    pub(crate) retained: bool,
+    pub(crate) last_peak_at: Option<usize>,
+}
+
+impl DelayEstimator {
+    pub(crate) fn fields(&self) -> Fields {
+        Fields {
+            retained: self.retained_near_valid,
+            last_peak_at: self.last_scan_peak_at,
+        }
+    }
+
+    pub(crate) fn near_frame(&self) -> &[f32] {
+        &self.near_frame
+    }
+
+    pub(crate) fn retained_near(&self) -> &[f32] {
+        &self.retained_near
+    }
+
+    /// The array that the peak rule reads: entries 0 to span.
+    pub(crate) fn correlation(&mut self) -> &mut [f32] {
+        &mut self.correlation[..=self.max_delay]
+    }
+
+    pub(crate) fn set_counts(&mut self, frames: u32, skipped: u32, scans: u64) {
+        self.frames = frames;
+        self.skipped = skipped;
+        self.scans = scans;
+    }
+}

@@ -1,0 +1,65 @@
+//! The unchanged Rust original as oracle: it makes the vectors that the suites of the tree replay.
+
+#[path = "../../target/compare/original/coarse.rs"]
+#[allow(dead_code)]
+mod coarse;
+#[path = "../../target/compare/original/delay.rs"]
+#[allow(dead_code)]
+mod delay;
+#[path = "../../target/compare/original/fft.rs"]
+#[allow(dead_code)]
+mod fft;
+#[path = "../../target/compare/original/ring.rs"]
+#[allow(dead_code)]
+mod ring;
+#[path = "../../target/compare/original/track.rs"]
+#[allow(dead_code)]
+mod track;
+
+mod random;
+mod record;
+mod replay;
+mod signal;
+mod vectors;
+
+const USAGE: &str = "\
+compare vectors tracker SEED FOLDER   writes FOLDER/bands and FOLDER/cycles
+compare vectors ring SEED FOLDER      writes FOLDER/calls
+compare vectors scan SEED FOLDER      writes FOLDER/calls and FOLDER/full
+compare vectors fine SEED FOLDER      writes FOLDER/calls and FOLDER/arrays
+compare vectors replay SEED FOLDER    writes index, events, far, near, logs and names of recordings
+compare vectors demo SEED FOLDER      writes events, far, near and log of the demo recording
+compare replay EVENTS FAR NEAR        prints the log of a recording
+compare replays SEED COUNT PROGRAM    runs PROGRAM EVENTS FAR NEAR on random recordings and compares what it prints";
+
+fn main() {
+    let words: Vec<String> = std::env::args().skip(1).collect();
+    let words: Vec<&str> = words.iter().map(String::as_str).collect();
+    let done = match words[..] {
+        ["vectors", what, seed, folder] => vectors::write(what, seed, folder),
+        ["replays", seed, count, program] => replays(seed, count, program),
+        ["replay", events, far, near] => print_log(events, far, near),
+        _ => Err(USAGE.to_string()),
+    };
+    if let Err(message) = done {
+        eprintln!("{message}");
+        std::process::exit(2);
+    }
+}
+
+fn print_log(events: &str, far: &str, near: &str) -> Result<(), String> {
+    let read = |path: &str| std::fs::read(path).map_err(|error| format!("{path}: {error}"));
+    let recording = replay::Recording {
+        events: read(events)?,
+        far: read(far)?,
+        near: read(near)?,
+    };
+    print!("{}", replay::log(&recording));
+    Ok(())
+}
+
+fn replays(seed: &str, count: &str, program: &str) -> Result<(), String> {
+    let seed = seed.parse().map_err(|_| format!("'{seed}' is no seed"))?;
+    let count = count.parse().map_err(|_| format!("'{count}' is no count"))?;
+    replay::differ::run(seed, count, program)
+}

@@ -1,0 +1,24 @@
+#!/usr/bin/env bash
+# Makes the stored vectors again from the unchanged Rust original and holds them to the stored ones, byte for byte.
+# Where the original is not at hand this is left out: the suites that replay the vectors need no Rust.
+set -eu
+cd "$(dirname "$0")/.."
+built=0
+compare/build || built=$?
+[ "$built" != 3 ] || exit 0
+[ "$built" = 0 ] || exit "$built"
+
+made=target/compare/vectors
+rm -rf "$made"
+hold() { # what is made, and the folder where it is stored
+  target/compare/compare vectors "$1" 1 "$made/$1" 2>/dev/null
+  for file in "$made/$1"/*; do
+    stored=$2/$(basename "$file")
+    cmp -s "$file" "$stored" || { echo "vectors: $stored is not what the original gives" >&2; exit 1; }
+  done
+}
+for what in tracker ring scan fine replay; do
+  hold "$what" "crates/${what}_suite/data"
+done
+hold demo demo
+echo "vectors: tracker, ring, scan, fine, replay and demo are what the original gives"
