@@ -11,3 +11,4 @@ pub mod Rows
 pub mod Laws
 pub mod Finite
 pub mod Levels
+pub mod Determined
