@@ -12,3 +12,4 @@ pub mod Laws
 pub mod Finite
 pub mod Levels
 pub mod Determined
+pub mod Distance
