@@ -17,7 +17,7 @@ returns-2 : tie.Need-returns-2
 returns-2 c = root-bits-meets (c .before .before .before .args .b) _ (c .root-size .ensures)
 
 returns-3 : tie.Need-returns-3
-returns-3 c = root-bits-meets (c .before .before .before .args .b) _ (c .if3 .taken ∙ sym root-infinity ∙ ap rootBits (sym (c .if3 .taken)))
+returns-3 c = root-bits-meets (c .before .before .before .args .b) _ (sym root-infinity ∙ ap rootBits (sym (c .if3 .taken)))
 
 returns-4 : tie.Need-returns-4
 returns-4 c = root-bits-meets (c .before .before .before .args .b) _ (sym (root-none (c .before .before .before .args .b) (search needs) (omega (arith, c .if3 .left)) (c .before .before .if1 .left)))
