@@ -8,26 +8,8 @@ use native.Mathlib.Omega.{arith}
 use lib.Ieee.{Format, low}
 use Rattle.answers.specs.Numbers.{apart}
 use Rattle.floats.specs.Rounding.{Held, Even, NotAbove, NotBelow, ratio, rootOf, Nearest}
-use Rattle.floats.proofs.Round.{Cmp, cmp, le-or-lt}
+use Rattle.floats.proofs.Compare.{le-or-lt, of-not-above, of-not-below}
 use Rattle.floats.proofs.Root.{square-lt}
-
--- ---- the side of the middle, as an inequality
-
-not-above-le : (t m : ℕ) (E : Type 0) → NotAbove (compare t m) E → t ≤ m
-not-above-le t m E n = go (compare t m) (cmp t m) n
-  where
-    go : (o : Ordering) → Cmp o t m → NotAbove o E → t ≤ m
-    go Ordering·lt c n = le-of-lt c
-    go Ordering·eq c n = le-of-eq c
-    go Ordering·gt c n = absurd n
-
-not-below-le : (t m : ℕ) (E : Type 0) → NotBelow (compare t m) E → m ≤ t
-not-below-le t m E n = go (compare t m) (cmp t m) n
-  where
-    go : (o : Ordering) → Cmp o t m → NotBelow o E → m ≤ t
-    go Ordering·lt c n = absurd n
-    go Ordering·eq c n = le-of-eq (sym c)
-    go Ordering·gt c n = le-of-lt c
 
 -- ---- fractions
 
@@ -41,9 +23,9 @@ no-nearer-to-fraction f a b g z B N h =
     elim (le-or-lt g z) [
       | inl l ↦ elim (eq-or-lt-of-le l) [
         | inl e ↦ le-of-eq (ap (λ (y : ℕ). apart n (y * b)) e)
-        | inr k ↦ larger n (g * b) (z * b) m (add-mul g z b) (mul-lt-mul-of-pos-right k B) (subst (λ (y : ℕ). y ≤ m) twice (not-above-le t m (Even f g) (N .above z h k)))
+        | inr k ↦ larger n (g * b) (z * b) m (add-mul g z b) (mul-lt-mul-of-pos-right k B) (subst (λ (y : ℕ). y ≤ m) twice (of-not-above t m (Even f g) (N .above z h k)))
       ]
-      | inr k ↦ smaller n (g * b) (z * b) m (add-mul g z b) (mul-lt-mul-of-pos-right k B) (subst (λ (y : ℕ). m ≤ y) twice (not-below-le t m (Even f g) (N .below z h k)))
+      | inr k ↦ smaller n (g * b) (z * b) m (add-mul g z b) (mul-lt-mul-of-pos-right k B) (subst (λ (y : ℕ). m ≤ y) twice (of-not-below t m (Even f g) (N .below z h k)))
     ]
   where
     larger : (n g z m : ℕ) → m ≡ g + z → g < z → 2 * n ≤ m → apart n g ≤ apart n z
@@ -96,11 +78,11 @@ no-nearer-to-root f a b g z p q B N h w =
         | inl e ↦ subst (λ (y : ℕ). Within n b y p q) (sym e) w
         | inr k ↦
             larger b B (g * q) (z * q) p (n * (q * q)) (mul-le-mul-right q l)
-            (le-trans (le-of-eq (sym scaled)) (le-trans (mul-le-mul-right (q * q) (not-above-le t m (Even f g) (N .above z h k))) (le-of-eq middle))) (w .0)
+            (le-trans (le-of-eq (sym scaled)) (le-trans (mul-le-mul-right (q * q) (of-not-above t m (Even f g) (N .above z h k))) (le-of-eq middle))) (w .0)
       ]
       | inr k ↦
           smaller b B (g * q) (z * q) p (n * (q * q)) (mul-le-mul-right q (le-of-lt k))
-          (le-trans (le-of-eq (sym middle)) (le-trans (mul-le-mul-right (q * q) (not-below-le t m (Even f g) (N .below z h k))) (le-of-eq scaled))) (w .1)
+          (le-trans (le-of-eq (sym middle)) (le-trans (mul-le-mul-right (q * q) (of-not-below t m (Even f g) (N .below z h k))) (le-of-eq scaled))) (w .1)
     ]
   where
     out : (a l q : ℕ) → a * (2 * l * (2 * l)) * q ≡ 4 * (a * (l * l) * q)

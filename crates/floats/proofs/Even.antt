@@ -7,7 +7,7 @@ use native.Mathlib.Omega.{arith}
 use lib.Pow.{pow-pos, pow-mono, shr-lt}
 use lib.Ieee.{nearest}
 use lib.Ieee.Nearest.{closest}
-use Rattle.floats.proofs.Round.{Cmp, cmp, cmp-lt, cmp-eq, cmp-gt}
+use Rattle.floats.proofs.Compare.{compare-lt, compare-eq, compare-gt}
 
 module _ (m D r : ℕ) (e : r ≡ m % D) (l : r < D) where
   at : (o : Ordering) → compare (m % D * 2) D ≡ o → nearest (m / D) o ≡ closest m D
@@ -23,13 +23,13 @@ module _ (m D r : ℕ) (e : r ≡ m % D) (l : r < D) where
   tie g h = omega arith
 
   pub closest-low : r < D - r → m / D ≡ closest m D
-  closest-low h = at Ordering·lt (cmp-lt (compare (m % D * 2) D) (m % D * 2) D (cmp (m % D * 2) D) (subst (λ (y : ℕ). y * 2 < D) e (low h)))
+  closest-low h = at Ordering·lt (compare-lt (m % D * 2) D (subst (λ (y : ℕ). y * 2 < D) e (low h)))
 
   pub closest-high : D - r < r → m / D + 1 ≡ closest m D
-  closest-high h = add-one (m / D) ∙ at Ordering·gt (cmp-gt (compare (m % D * 2) D) (m % D * 2) D (cmp (m % D * 2) D) (subst (λ (y : ℕ). D < y * 2) e (high h)))
+  closest-high h = add-one (m / D) ∙ at Ordering·gt (compare-gt (m % D * 2) D (subst (λ (y : ℕ). D < y * 2) e (high h)))
 
   pub closest-tie : D - r ≤ r → r ≤ D - r → m / D + m / D % 2 ≡ closest m D
-  closest-tie g h = at Ordering·eq (cmp-eq (compare (m % D * 2) D) (m % D * 2) D (cmp (m % D * 2) D) (subst (λ (y : ℕ). y * 2 ≡ D) e (tie g h)))
+  closest-tie g h = at Ordering·eq (compare-eq (m % D * 2) D (subst (λ (y : ℕ). y * 2 ≡ D) e (tie g h)))
 
 pub rest-is : (m k u : ℕ) → u ≡ 2 ^ k → m - m / 2 ^ k * u ≡ m % 2 ^ k
 rest-is m k u e = ap (λ (y : ℕ). m - m / 2 ^ k * y) e ∙ sym (mod-eq-sub-div-mul m (2 ^ k))

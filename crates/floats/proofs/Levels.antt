@@ -19,7 +19,7 @@ use lib.Ieee.Exact.{HasValue, round-exact}
 use lib.Ieee.Order.{round-mono}
 use lib.Ieee.Scale.{finite}
 use Rattle.floats.specs.Functions.{magnitude, zero64, whole, narrow}
-use Rattle.floats.proofs.Round.{le-or-lt}
+use Rattle.floats.proofs.Compare.{le-or-lt}
 
 -- the largest f32
 abbrev pub largest : ℕ

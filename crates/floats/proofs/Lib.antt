@@ -1,3 +1,4 @@
+pub mod Compare
 pub mod Round
 pub mod Pattern
 pub mod Ratio
@@ -6,7 +7,7 @@ pub mod Even
 pub mod Narrow
 pub mod Extend
 pub mod Whole
-pub mod Floats
+pub mod Readback
 pub mod Rows
 pub mod Laws
 pub mod Finite

@@ -14,8 +14,9 @@ use lib.Ieee.Exact.{HasValue, odd-sign}
 use lib.Ieee.Nearest.{closest}
 use Rattle.floats.specs.Rounding.{Held, Even, Quantity, ratio, NotAbove, NotBelow, Nearest, Rounded}
 use Rattle.floats.specs.Functions.{narrow, narrowBits}
-use Rattle.floats.proofs.Round.{Ordered, Step, Full, Cmp, cmp, cmp-lt, le-or-lt, not-below}
-use Rattle.floats.proofs.Pattern.{scaled, pattern, not-below-of, bits-inf}
+use Rattle.floats.proofs.Compare.{le-or-lt, compare-lt, scaled, not-below-of}
+use Rattle.floats.proofs.Round.{Ordered, Full, not-below}
+use Rattle.floats.proofs.Pattern.{pattern, bits-inf}
 use Rattle.floats.proofs.Ratio.{ratio-ordered, narrow-rounded}
 
 -- ---- what the fields stand for
@@ -131,7 +132,7 @@ closest-none : (M D : ℕ) → M * 2 < D → closest M D ≡ 0
 closest-none M D h =
     ap (λ (y : ℕ). nearest y (compare (M % D * 2) D)) (div-eq-of-lt (less M D h))
     ∙ ap (λ (y : ℕ). nearest 0 (compare (y * 2) D)) (mod-eq-of-lt (less M D h))
-    ∙ ap (nearest 0) (cmp-lt (compare (M * 2) D) (M * 2) D (cmp (M * 2) D) h)
+    ∙ ap (nearest 0) (compare-lt (M * 2) D h)
   where
     less : (M D : ℕ) → M * 2 < D → M < D
     less M D h = omega arith

@@ -8,19 +8,21 @@ use native.Mathlib.Nat.{le-refl, le-trans, le-of-eq, le-of-lt, le-antisymm, le-o
 use native.Mathlib.Omega.{arith}
 use mathlib.Core.Bool.{Bool, true, false, not, cond}
 use lib.Pow.{pow-add, pow-pos, pow-mono, pow-lt, shl-lt}
-use lib.Ieee.{Float, nan, inf, fin, Format, prec, emax, low, up, down, size, hid, ones, top, nearest, toBits}
+use lib.Ieee.{Float, nan, inf, fin, Format, prec, emax, low, up, down, size, hid, ones, top, nearest, ofBits, toBits}
+use lib.Ieee.Bits.{ofBits-toBits}
 use lib.Ieee.Fits.{two, reach, two-le-pos, down-pos, nearest-le}
 use lib.Ieee.Digits.{size-lt, size-le}
 use lib.Ieee.Exact.{HasValue}
 use lib.Ieee.Nearest.{closest, nearest-ge}
 use Rattle.floats.specs.Rounding.{Held, Even, Quantity, NotAbove, NotBelow, Nearest, Rounded}
-use Rattle.floats.proofs.Round.{Ordered, Full, Cmp, cmp, rounds, unique, le-or-lt}
+use Rattle.floats.proofs.Compare.{le-or-lt, same-compare, not-above-of, not-below-of}
+use Rattle.floats.proofs.Round.{Ordered, Full, rounds, unique}
 
 -- ---- the pattern of a size
-pub plain : Format → ℕ → ℕ
+plain : Format → ℕ → ℕ
 plain f g = (size g - prec f) * hid f + g / 2 ^ (size g - prec f)
 
-pub bits-of : (f : Format) (s : Bool) (g : ℕ) (y : Float) → HasValue y s g (2 ^ low f) → toBits f y ≡ cond s (top f) 0 + plain f g
+bits-of : (f : Format) (s : Bool) (g : ℕ) (y : Float) → HasValue y s g (2 ^ low f) → toBits f y ≡ cond s (top f) 0 + plain f g
 unfolding toBits plain
 bits-of f s g nan v = absurd v
 bits-of f s g (inf t) v = absurd v
@@ -123,52 +125,6 @@ rounded-bits f s x y r q k u h a e = elim (le-or-lt (2 ^ (low f + suc (emax f)))
       bits-of f s (r .size) y (r .finite l) ∙ ap (λ (z : ℕ). cond s (top f) 0 + z) (ap (plain f) e ∙ plain-is f q k u h)
 ]
 
--- ---- two comparisons with the same answer
-pub same-order : (o p : Ordering) (a b c d : ℕ) → Cmp o a b → Cmp p c d → (a < b → c < d) → (a ≡ b → c ≡ d) → (b < a → d < c) → o ≡ p
-same-order o p a b c d x y l e g = go o p x y
-  where
-    no : (c d : ℕ) → c < d → d ≤ c → ⊥
-    no c d h k = omega arith
-
-    go : (o p : Ordering) → Cmp o a b → Cmp p c d → o ≡ p
-    go Ordering·lt Ordering·lt x y = refl
-    go Ordering·lt Ordering·eq x y = absurd (no c d (l x) (le-of-eq (sym y)))
-    go Ordering·lt Ordering·gt x y = absurd (no c d (l x) (le-of-lt y))
-    go Ordering·eq Ordering·lt x y = absurd (no c d y (le-of-eq (sym (e x))))
-    go Ordering·eq Ordering·eq x y = refl
-    go Ordering·eq Ordering·gt x y = absurd (no d c y (le-of-eq (e x)))
-    go Ordering·gt Ordering·lt x y = absurd (no d c (g x) (le-of-lt y))
-    go Ordering·gt Ordering·eq x y = absurd (no d c (g x) (le-of-eq y))
-    go Ordering·gt Ordering·gt x y = refl
-
-pub same-compare : (a b c d : ℕ) → (a < b → c < d) → (a ≡ b → c ≡ d) → (b < a → d < c) → compare a b ≡ compare c d
-same-compare a b c d l e g = same-order (compare a b) (compare c d) a b c d (cmp a b) (cmp c d) l e g
-
-pub scaled : (a b u : ℕ) → 0 < u → compare (a * u) (b * u) ≡ compare a b
-scaled a b u U = sym (same-compare a b (a * u) (b * u) (λ h. mul-lt-mul-of-pos-right h U) (λ e. ap (λ (y : ℕ). y * u) e) (λ h. mul-lt-mul-of-pos-right h U))
-
-pub not-below-of : (a b : ℕ) → b ≤ a → NotBelow (compare a b) (Unit {0})
-not-below-of a b h = go (compare a b) (cmp a b)
-  where
-    no : (a b : ℕ) → b ≤ a → a < b → ⊥
-    no a b h k = omega arith
-
-    go : (o : Ordering) → Cmp o a b → NotBelow o (Unit {0})
-    go Ordering·lt c = no a b h c
-    go Ordering·eq c = tt
-    go Ordering·gt c = tt
-
-not-above-of : (a b : ℕ) → a ≤ b → NotAbove (compare a b) (Unit {0})
-not-above-of a b h = go (compare a b) (cmp a b)
-  where
-    no : (a b : ℕ) → b ≤ a → a < b → ⊥
-    no a b h k = omega arith
-
-    go : (o : Ordering) → Cmp o a b → NotAbove o (Unit {0})
-    go Ordering·lt c = tt
-    go Ordering·eq c = tt
-    go Ordering·gt c = no b a h c
-
 -- ---- m = q * D + r, in halves; P stands for q * D
 low-end : (m P r QD : ℕ) → P + r ≡ m → QD ≡ P + P → QD ≤ 2 * m
 low-end m P r QD e a = omega arith
@@ -219,3 +175,15 @@ pattern f s x y o r m d k like u h a =
     let w = compare (m % D * 2) D in
     rounded-bits f s x y r c k (full-more f q c k (nearest-ge q w) u) (le-trans (nearest-le q w) h) a
     (unique f x o (r .size) (c * 2 ^ k) (r .near) (near-closest f x o m D k (pow-pos d) like u h))
+
+-- ---- there is one rounded value
+pub rounded-one : (f : Format) (s : Bool) (x : Quantity) → Ordered x → (y z : Float) → Rounded f s x y → Rounded f s x z → y ≡ z
+rounded-one f s x o y z Y Z =
+    let e : Y .size ≡ Z .size = unique f x o (Y .size) (Z .size) (Y .near) (Z .near) in
+    elim (le-or-lt (2 ^ (low f + suc (emax f))) (Y .size)) [
+      | inl h ↦ Y .overflow h ∙ sym (Z .overflow (subst (λ (n : ℕ). 2 ^ (low f + suc (emax f)) ≤ n) e h))
+      | inr h ↦
+          sym (ofBits-toBits f y (Y .holds))
+          ∙ ap (ofBits f) (bits-of f s (Y .size) y (Y .finite h) ∙ ap (λ (n : ℕ). cond s (top f) 0 + plain f n) e ∙ sym (bits-of f s (Z .size) z (Z .finite (subst (λ (n : ℕ). n < 2 ^ (low f + suc (emax f))) e h))))
+          ∙ ofBits-toBits f z (Z .holds)
+    ]

@@ -18,7 +18,7 @@ use lib.Ieee.Bits.{cond-no}
 use lib.Ieee.Nearest.{closest}
 use Rattle.floats.specs.Rounding.{Held, Even, Quantity, NotAbove, NotBelow, ratio, Nearest, Rounded}
 use Rattle.floats.specs.Functions.{narrow}
-use Rattle.floats.proofs.Round.{Ordered, Full, ordered, Cmp, cmp, le-or-lt}
+use Rattle.floats.proofs.Round.{Ordered, Full, ordered}
 use Rattle.floats.proofs.Pattern.{near-closest}
 
 pub ratio-ordered : (f : Format) (a b : ℕ) → 0 < b → Ordered (ratio f a b)

@@ -17,8 +17,9 @@ use lib.Ieee.Nearest.{closest}
 use Rattle.floats.specs.Rounding.{Quantity, ratio, rootOf, Nearest, Rounded}
 use Rattle.floats.specs.Functions.{isqrt, wholeRoot, rootRatio, root}
 use Rattle.floats.specs.Steps.{IsRoot, sticky}
-use Rattle.floats.proofs.Round.{Ordered, Full, ordered}
-use Rattle.floats.proofs.Pattern.{same-compare, scaled, pattern}
+use Rattle.floats.proofs.Compare.{same-compare, scaled}
+use Rattle.floats.proofs.Round.{Ordered, ordered}
+use Rattle.floats.proofs.Pattern.{pattern}
 use Rattle.floats.proofs.Ratio.{round-rounded}
 
 -- ---- the whole root

@@ -15,6 +15,7 @@ use lib.Ieee.{Format, prec, low, hid, nearest}
 use lib.Ieee.Fits.{two, two-le-pos}
 use lib.Ieee.Digits.{back}
 use Rattle.floats.specs.Rounding.{Held, Even, Quantity, NotAbove, NotBelow, Nearest}
+use Rattle.floats.proofs.Compare.{le-or-lt, compare-lt, compare-gt}
 
 -- ---- orders
 abbrev pub Step : Ordering → Ordering → Type 0
@@ -25,6 +26,17 @@ Step Ordering·gt p = Unit {0}
 -- a quantity that is at most h is below what is above h
 abbrev pub Ordered : Quantity → Type 0
 Ordered x = (h i : ℕ) → h < i → Step (x h) (x i)
+
+pub ordered : (n : ℕ) (b : ℕ → ℕ) → ((h i : ℕ) → h < i → b h < b i) → Ordered (λ (h : ℕ). compare n (b h))
+ordered n b up h i l = elim (le-or-lt n (b h)) [
+  | inl k ↦ subst (Step (compare n (b h))) (sym (compare-lt n (b i) (lt-of-le-of-lt k (up h i l)))) (step-lt (compare n (b h)))
+  | inr k ↦ subst (λ (o : Ordering). Step o (compare n (b i))) (sym (compare-gt n (b h) k)) tt
+]
+  where
+    step-lt : (o : Ordering) → Step o Ordering·lt
+    step-lt Ordering·lt = refl
+    step-lt Ordering·eq = refl
+    step-lt Ordering·gt = tt
 
 pub not-above : (d e : Type 0) (o p : Ordering) → Step o p → NotAbove o d → NotAbove p e
 not-above d e Ordering·lt p s n = subst (λ (z : Ordering). NotAbove z e) (sym s) tt
@@ -39,13 +51,6 @@ not-below d e Ordering·gt p s n = tt
 -- ---- no size of the format lies between q * 2 ^ k and the next, if q has all its digits or k is 0
 abbrev pub Full : Format → ℕ → ℕ → Type 0
 Full f q k = (k ≡ 0) ⊎ (hid f ≤ q)
-
-pub le-or-lt : (a b : ℕ) → (a ≤ b) ⊎ (b < a)
-le-or-lt a b = go (leb a b) (leb→le a b) (nleb→lt a b)
-  where
-    go : (t : Bool) → (T t → a ≤ b) → (T (not t) → b < a) → (a ≤ b) ⊎ (b < a)
-    go true h k = inl (h tt)
-    go false h k = inr (k tt)
 
 room : (p j k : ℕ) → 0 < p → j < k → p + j ≤ p - 1 + k
 room p j k P h = omega arith
@@ -276,43 +281,3 @@ unique f x o g z G Z = elim (le-or-lt g z) [
   | inl h ↦ elim (eq-or-lt-of-le h) [ inl e ↦ e | inr l ↦ absurd (no-two f x o g z G Z l) ]
   | inr l ↦ absurd (no-two f x o z g Z G l)
 ]
-
--- ---- a quantity that a comparison of numbers gives is ordered
-abbrev pub Cmp : Ordering → ℕ → ℕ → Type 0
-Cmp Ordering·lt a b = a < b
-Cmp Ordering·eq a b = a ≡ b
-Cmp Ordering·gt a b = b < a
-
-pub cmp : (a b : ℕ) → Cmp (compare a b) a b
-cmp a b = go (compare a b) (leb→le a b) (nleb→lt a b) (eqb→eq a b) (λ (e : a ≡ b). subst (λ (x : ℕ). T (eqb a x)) e (eqb-refl a))
-  where
-    go : (o : Ordering) → (T (isLe o) → a ≤ b) → (T (not (isLe o)) → b < a) → (T (isEq o) → a ≡ b) → (a ≡ b → T (isEq o)) → Cmp o a b
-    go Ordering·lt h k e n = lt-of-le-ne (h tt) n
-    go Ordering·eq h k e n = e tt
-    go Ordering·gt h k e n = k tt
-
-clash : (a b : ℕ) → a < b → b ≤ a → ⊥
-clash a b h k = omega arith
-
-pub cmp-lt : (o : Ordering) (a b : ℕ) → Cmp o a b → a < b → o ≡ Ordering·lt
-cmp-lt Ordering·lt a b c l = refl
-cmp-lt Ordering·eq a b c l = absurd (clash a b l (le-of-eq (sym c)))
-cmp-lt Ordering·gt a b c l = absurd (clash a b l (le-of-lt c))
-
-pub cmp-eq : (o : Ordering) (a b : ℕ) → Cmp o a b → a ≡ b → o ≡ Ordering·eq
-cmp-eq Ordering·lt a b c e = absurd (clash a b c (le-of-eq (sym e)))
-cmp-eq Ordering·eq a b c e = refl
-cmp-eq Ordering·gt a b c e = absurd (clash b a c (le-of-eq e))
-
-pub cmp-gt : (o : Ordering) (a b : ℕ) → Cmp o a b → b < a → o ≡ Ordering·gt
-cmp-gt Ordering·lt a b c l = absurd (clash b a l (le-of-lt c))
-cmp-gt Ordering·eq a b c l = absurd (clash b a l (le-of-eq c))
-cmp-gt Ordering·gt a b c l = refl
-
-pub ordered : (n : ℕ) (b : ℕ → ℕ) → ((h i : ℕ) → h < i → b h < b i) → Ordered (λ (h : ℕ). compare n (b h))
-ordered n b up h i l = go (compare n (b h)) (cmp n (b h))
-  where
-    go : (o : Ordering) → Cmp o n (b h) → Step o (compare n (b i))
-    go Ordering·lt c = cmp-lt (compare n (b i)) n (b i) (cmp n (b i)) (lt-trans c (up h i l))
-    go Ordering·eq c = cmp-lt (compare n (b i)) n (b i) (cmp n (b i)) (subst (λ (y : ℕ). y < b i) (sym c) (up h i l))
-    go Ordering·gt c = tt

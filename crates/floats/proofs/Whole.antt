@@ -16,7 +16,7 @@ use lib.Ieee.Nearest.{closest}
 use Rattle.floats.specs.Functions.{root, rootRatio, rootBits}
 use Rattle.floats.specs.Steps.{IsRoot, Marked, RootAt, Shifted, sticky}
 use Rattle.floats.proofs.Root.{root-pattern}
-use Rattle.floats.proofs.Round.{le-or-lt}
+use Rattle.floats.proofs.Compare.{le-or-lt}
 use Rattle.floats.proofs.Narrow.{by-fields, fields-normal, fields-low, nan-above, at-top}
 
 -- ---- m, or twice m
