@@ -4,9 +4,10 @@ pub mod Pattern
 pub mod Ratio
 pub mod Root
 pub mod Even
-pub mod Narrow
+pub mod Fields
+pub mod Narrowing
 pub mod Extend
-pub mod Whole
+pub mod RootFields
 pub mod Readback
 pub mod Rows
 pub mod Laws

@@ -4,7 +4,7 @@ use native.Mathlib.Omega.{arith}
 use lib.Dec.{lit<}
 use mathlib.Core.Path.{_≡_, _∙_, ap, sym}
 use mathlib.Core.Bool.{cond}
-use Rattle.floats.proofs.Narrow.{narrow-over, narrow-none, narrow-sub, narrow-normal, sub-le, normal-le}
+use Rattle.floats.proofs.Narrowing.{narrow-over, narrow-none, narrow-low, narrow-normal, low-le, normal-le}
 use Rattle.floats.proofs.narrow_size.Statement.{statement}
 use Rattle.floats.proofs.narrow_size.Tie as tie
 
@@ -28,8 +28,8 @@ returns-3 c =
     let x = c .before .before .before .before .args .size / 2 ^ 52 in
     let t = c .before .before .before .before .args .size % 2 ^ 52 in
     record {
-      below = omega (arith, sub-le x t (search needs) (omega arith), c .to-even .ensures);
-      is = λ s. narrow-sub s x t (search needs) (search needs) (omega arith) ∙ ap (λ (y : ℕ). cond s (2 ^ 31) 0 + y) (sym (c .to-even .ensures));
+      below = omega (arith, low-le x t (search needs) (omega arith), c .to-even .ensures);
+      is = λ s. narrow-low s x t (omega arith) (search needs) (omega arith) ∙ ap (λ (y : ℕ). cond s (2 ^ 31) 0 + y) (sym (c .to-even .ensures));
     }
 
 mul-result : tie.Need-mul-result

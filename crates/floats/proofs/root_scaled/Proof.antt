@@ -3,7 +3,7 @@ use mathlib.Core.Path.{_≡_, _∙_, ap, sym, subst}
 use Prim.Native.Nat.{ℕ, _+_, _-_, _*_, _/_, _%_, _^_}
 use native.Mathlib.Omega.{arith}
 use Rattle.floats.specs.Steps.{Marked}
-use Rattle.floats.proofs.Whole.{once-or-twice, part-le, quarter-le}
+use Rattle.floats.proofs.RootFields.{once-or-twice, part-le, quarter-le}
 use Rattle.floats.proofs.root_scaled.Statement.{statement}
 use Rattle.floats.proofs.root_scaled.Tie as tie
 

@@ -2,7 +2,7 @@ use borrow.Author.Needs.{needs}
 use mathlib.Core.Path.{_≡_, _∙_, sym}
 use Prim.Native.Nat.{ℕ, _/_, _%_, _^_}
 use native.Mathlib.Omega.{arith}
-use Rattle.floats.proofs.Whole.{root-fields, root-normal, root-low-field}
+use Rattle.floats.proofs.RootFields.{root-fields, root-normal, root-subnormal}
 use Rattle.floats.proofs.root_size.Statement.{statement}
 use Rattle.floats.proofs.root_size.Tie as tie
 
@@ -28,7 +28,7 @@ root-scaled-requires-2 : tie.Need-root-scaled-requires-2
 root-scaled-requires-2 c κs = search needs
 
 returns-2 : tie.Need-returns-2
-returns-2 c = root-low-field (c .before .before .before .args .b / 2 ^ 52) (c .before .before .before .args .b % 2 ^ 52) (c .before .shift-up .result .m) (c .before .shift-up .result .z) (c .root-scaled2 .result) (omega arith) (omega arith) (c .before .shift-up .ensures) (c .root-scaled2 .ensures) ∙ sym (root-fields (c .before .before .before .args .b) (omega arith))
+returns-2 c = root-subnormal (c .before .before .before .args .b / 2 ^ 52) (c .before .before .before .args .b % 2 ^ 52) (c .before .shift-up .result .m) (c .before .shift-up .result .z) (c .root-scaled2 .result) (omega arith) (omega arith) (c .before .shift-up .ensures) (c .root-scaled2 .ensures) ∙ sym (root-fields (c .before .before .before .args .b) (omega arith))
 
 pub root-size-spec : {M : Type 1} → statement M
 root-size-spec =

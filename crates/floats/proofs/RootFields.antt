@@ -2,7 +2,7 @@
 use mathlib.Core.Path.{_≡_, refl, sym, ap, _∙_, subst}
 use mathlib.Core.Logic.{_⊎_, inl, inr}
 use Prim.Native.Nat.{ℕ, zero, suc, _+_, _-_, _*_, _/_, _%_, _^_, _≤_, _<_, compare}
-use native.Mathlib.Nat.{eq-or-lt-of-le, le-trans, le-of-eq, le-of-lt, lt-of-lt-of-le, lt-of-le-of-lt, lt-of-not-le, not-le-of-lt, lt-irrefl, le-of-suc-le-suc, le-add-right, zero-lt-suc, add-comm, add-assoc, add-zero, zero-add, zero-mul, mul-one, mul-assoc, mul-comm, mul-left-comm, mul-right-comm, mul-le-mul, mul-le-mul-right, mul-lt-mul-of-pos-right, mul-pos, mod-lt, mod-eq-of-lt}
+use native.Mathlib.Nat.{eq-or-lt-of-le, eq-zero-or-pos, le-trans, le-of-eq, le-of-lt, lt-of-lt-of-le, lt-of-le-of-lt, lt-of-not-le, not-le-of-lt, lt-irrefl, le-of-suc-le-suc, le-add-right, zero-lt-suc, add-comm, add-assoc, add-zero, zero-add, zero-mul, mul-one, mul-assoc, mul-comm, mul-left-comm, mul-right-comm, mul-le-mul, mul-le-mul-right, mul-lt-mul-of-pos-right, mul-pos, mod-lt, mod-eq-of-lt}
 use native.Mathlib.Omega.{arith}
 use mathlib.Core.Bool.{Bool, true, false, not, cond, true≢false}
 use lib.Dec.{T, leb, ltb, eqb, lit<, lit≤}
@@ -17,7 +17,7 @@ use Rattle.floats.specs.Functions.{root, rootRatio, rootBits}
 use Rattle.floats.specs.Steps.{IsRoot, Marked, RootAt, Shifted, sticky}
 use Rattle.floats.proofs.Root.{root-pattern}
 use Rattle.floats.proofs.Compare.{le-or-lt}
-use Rattle.floats.proofs.Narrow.{by-fields, fields-normal, fields-low, nan-above, at-top}
+use Rattle.floats.proofs.Fields.{by-fields, fields-normal, fields-subnormal, fields-infinite, nan-above}
 
 -- ---- m, or twice m
 pub once-or-twice : (m e : ℕ) → m + m * (e % 2) ≡ m * 2 ^ (e % 2)
@@ -118,21 +118,18 @@ root-at (fin false (suc m) x) M w z E N r v p e lo hi s f R =
     half E h = omega arith
 
 -- ---- by the fields of a pattern with no sign
-below-sign : (b : ℕ) → b < 2 ^ 63 → leb (2 ^ 63) b ≡ false
-below-sign b h = lt-leb (2 ^ 63) b h
 
 pub root-fields : (b : ℕ) → b < 2 ^ 63 → rootBits b ≡ toBits binary64 (root binary64 (ofFields binary64 false (b / 2 ^ 52) (b % 2 ^ 52)))
 unfolding rootBits
 root-fields b h =
     ap (λ (v : Float). toBits binary64 (root binary64 v))
-    (by-fields b false (below-sign b h) ∙ ap (λ (y : ℕ). ofFields binary64 false (y / 2 ^ 52) (y % 2 ^ 52)) (mod-eq-of-lt h))
+    (by-fields b false (lt-leb (2 ^ 63) b h) ∙ ap (λ (y : ℕ). ofFields binary64 false (y / 2 ^ 52) (y % 2 ^ 52)) (mod-eq-of-lt h))
 
 pub root-normal : (x t r : ℕ) → 0 < x → x < 2047 → t < 2 ^ 52 → RootAt (t + 2 ^ 52) (x + 1021) r → r ≡ toBits binary64 (root binary64 (ofFields binary64 false x t))
-root-normal zero t r a b c R = absurd (lt-irrefl 0 a)
-root-normal (suc w) t r a b c R =
-    root-at (ofFields binary64 false (suc w) t) (2 ^ 52 + t) w 0 (suc w + 1021) (t + 2 ^ 52) r (fields-normal false w t b) (some t) (add-comm t (2 ^ 52) ∙ sym (mul-one (2 ^ 52 + t))) (more t) (less t c) (sum w) (few w b) R
+root-normal x t r a b c R =
+    root-at (ofFields binary64 false x t) (t + 2 ^ 52) (x - 1) 0 (x + 1021) (t + 2 ^ 52) r (fields-normal false x t a b) (some t) (sym (mul-one (t + 2 ^ 52))) (more t) (less t c) (sum x a) (few x b) R
   where
-    some : (t : ℕ) → 0 < 2 ^ 52 + t
+    some : (t : ℕ) → 0 < t + 2 ^ 52
     some t = omega arith
 
     more : (t : ℕ) → 2 ^ 52 ≤ t + 2 ^ 52
@@ -141,15 +138,15 @@ root-normal (suc w) t r a b c R =
     less : (t : ℕ) → t < 2 ^ 52 → t + 2 ^ 52 < 2 ^ 53
     less t h = omega arith
 
-    sum : (w : ℕ) → 0 + (suc w + 1021) ≡ w + 1022
-    sum w = omega arith
+    sum : (x : ℕ) → 0 < x → 0 + (x + 1021) ≡ x - 1 + 1022
+    sum x h = omega arith
 
-    few : (w : ℕ) → suc w < 2047 → suc w + 1021 < 4092
-    few w h = omega arith
+    few : (x : ℕ) → x < 2047 → x + 1021 < 4092
+    few x h = omega arith
 
-pub root-low-field : (x t m z r : ℕ) → x ≡ 0 → 0 < t → Shifted t m z → RootAt m (1022 - z) r → r ≡ toBits binary64 (root binary64 (ofFields binary64 false x t))
-root-low-field x t m z r e p s R =
-    root-at (ofFields binary64 false 0 t) t 0 z (1022 - z) m r (fields-low false t) p (s .is) (s .at-least) (s .below) (sum z (s .few)) (few z) R
+pub root-subnormal : (x t m z r : ℕ) → x ≡ 0 → 0 < t → Shifted t m z → RootAt m (1022 - z) r → r ≡ toBits binary64 (root binary64 (ofFields binary64 false x t))
+root-subnormal x t m z r e p s R =
+    root-at (ofFields binary64 false 0 t) t 0 z (1022 - z) m r (fields-subnormal false t) p (s .is) (s .at-least) (s .below) (sum z (s .few)) (few z) R
     ∙ ap (λ (y : ℕ). toBits binary64 (root binary64 (ofFields binary64 false y t))) (sym e)
   where
     sum : (z : ℕ) → z ≤ 52 → z + (1022 - z) ≡ 0 + 1022
@@ -159,69 +156,58 @@ root-low-field x t m z r e p s R =
     few z = omega arith
 
 -- ---- the other patterns
-pub root-zero : rootBits 0 ≡ 0
+
+pub root-zero : (b : ℕ) → b < 2 ^ 64 → b % 2 ^ 63 ≡ 0 → b ≡ rootBits b
 unfolding rootBits root ofBits ofFields toBits
-root-zero = refl
+root-zero b l e = elim (le-or-lt (2 ^ 63) b) [
+  | inl g ↦ let z : b ≡ 2 ^ 63 = omega arith in subst (λ (y : ℕ). y ≡ rootBits y) (sym z) refl
+  | inr g ↦ let z : b ≡ 0 = omega arith in subst (λ (y : ℕ). y ≡ rootBits y) (sym z) refl
+]
 
-pub root-minus-zero : rootBits (2 ^ 63) ≡ 2 ^ 63
+pub root-infinity : (b : ℕ) → b ≡ 0x7ff0_0000_0000_0000 → 0x7ff0_0000_0000_0000 ≡ rootBits b
 unfolding rootBits root ofBits ofFields toBits
-root-minus-zero = refl
+root-infinity b e = ap rootBits (sym e)
 
-pub root-infinity : rootBits 0x7ff0_0000_0000_0000 ≡ 0x7ff0_0000_0000_0000
-unfolding rootBits root ofBits ofFields toBits
-root-infinity = refl
-
-nan-bits : (b : ℕ) → root binary64 (ofBits binary64 b) ≡ nan → rootBits b ≡ 0x7ff8_0000_0000_0000
-unfolding rootBits toBits
-nan-bits b e = ap (toBits binary64) e
-
-root-nan : (v : Float) → v ≡ nan → root binary64 v ≡ nan
+-- below 0
+negative : (v : Float) (a : ℕ) → HasValue v true a (2 ^ 1074) → 0 < a → root binary64 v ≡ nan
 unfolding root
-root-nan v e = ap (root binary64) e
-
-root-minus-inf : (v : Float) → v ≡ inf true → root binary64 v ≡ nan
-unfolding root
-root-minus-inf v e = ap (root binary64) e
-
-root-negative : (v : Float) (a : ℕ) → HasValue v true a (2 ^ 1074) → 0 < a → root binary64 v ≡ nan
-unfolding root
-root-negative nan a v p = absurd v
-root-negative (inf t) a v p = absurd v
-root-negative (fin false m x) a v p = absurd (true≢false (sym (v .0)))
-root-negative (fin true zero x) a v p =
+negative nan a v p = absurd v
+negative (inf t) a v p = absurd v
+negative (fin false m x) a v p = absurd (true≢false (sym (v .0)))
+negative (fin true zero x) a v p =
     absurd (lt-irrefl 0 (subst (λ (y : ℕ). 0 < y) (sym (v .1) ∙ ap (λ (y : ℕ). y * 2 ^ 1074) (zero-mul (up x)) ∙ zero-mul (2 ^ 1074)) (mul-pos p (down-pos x))))
-root-negative (fin true (suc m) x) a v p = refl
+negative (fin true (suc m) x) a v p = refl
 
-by-field : (x t : ℕ) → x < 2047 → 0 < x + t → root binary64 (ofFields binary64 true x t) ≡ nan
-by-field zero t h p = root-negative (ofFields binary64 true 0 t) (t * 2 ^ 0) (fields-low true t) (subst (λ (y : ℕ). 0 < y) (zero-add t ∙ sym (mul-one t)) p)
-by-field (suc w) t h p = root-negative (ofFields binary64 true (suc w) t) ((2 ^ 52 + t) * 2 ^ w) (fields-normal true w t h) (mul-pos (some t) (pow-pos w))
+negative-fields : (x t : ℕ) → x < 2047 → 0 < x + t → root binary64 (ofFields binary64 true x t) ≡ nan
+negative-fields x t h p = elim (eq-zero-or-pos x) [
+  | inl e ↦ ap (λ (y : ℕ). root binary64 (ofFields binary64 true y t)) e ∙ negative (ofFields binary64 true 0 t) (t * 2 ^ 0) (fields-subnormal true t) (rest x t e p)
+  | inr q ↦ negative (ofFields binary64 true x t) ((t + 2 ^ 52) * 2 ^ (x - 1)) (fields-normal true x t q h) (mul-pos (some t) (pow-pos (x - 1)))
+]
   where
-    some : (t : ℕ) → 0 < 2 ^ 52 + t
+    rest : (x t : ℕ) → x ≡ 0 → 0 < x + t → 0 < t * 1
+    rest x t e p = omega arith
+
+    some : (t : ℕ) → 0 < t + 2 ^ 52
     some t = omega arith
 
-pub root-none : (b : ℕ) → b < 2 ^ 64 → 0x7ff0_0000_0000_0000 < b → (b % 2 ^ 63 ≡ 0 → ⊥) → rootBits b ≡ 0x7ff8_0000_0000_0000
-root-none b l h p = nan-bits b (go (le-or-lt (b % 2 ^ 63) 0x7ff0_0000_0000_0000))
+pub root-none : (b : ℕ) → b < 2 ^ 64 → 0x7ff0_0000_0000_0000 < b → (b % 2 ^ 63 ≡ 0 → ⊥) → 0x7ff8_0000_0000_0000 ≡ rootBits b
+unfolding rootBits root toBits
+root-none b l h p = sym (ap (toBits binary64) (go (le-or-lt (b % 2 ^ 63) 0x7ff0_0000_0000_0000)))
   where
     sign : b % 2 ^ 63 ≤ 0x7ff0_0000_0000_0000 → 2 ^ 63 ≤ b
     sign g = omega arith
 
-    small : (m : ℕ) → m < 0x7ff0_0000_0000_0000 → m / 2 ^ 52 < 2047
-    small m g = omega arith
+    finite : (m : ℕ) → m < 0x7ff0_0000_0000_0000 → m / 2 ^ 52 < 2047
+    finite m g = omega arith
 
     some : (m : ℕ) → (m ≡ 0 → ⊥) → 0 < m / 2 ^ 52 + m % 2 ^ 52
     some m g = omega arith
 
     go : (b % 2 ^ 63 ≤ 0x7ff0_0000_0000_0000) ⊎ (0x7ff0_0000_0000_0000 < b % 2 ^ 63) → root binary64 (ofBits binary64 b) ≡ nan
-    go (inr g) = root-nan (ofBits binary64 b) (nan-above b g)
+    go (inr g) = ap (root binary64) (nan-above b g)
     go (inl g) =
         let v = by-fields b true (le-leb (2 ^ 63) b (sign g)) in
         elim (eq-or-lt-of-le g) [
-          | inl e ↦ root-minus-inf (ofBits binary64 b) (v ∙ ap (λ (y : ℕ). ofFields binary64 true (y / 2 ^ 52) (y % 2 ^ 52)) e ∙ at-top true 0 refl)
-          | inr k ↦ ap (root binary64) v ∙ by-field (b % 2 ^ 63 / 2 ^ 52) (b % 2 ^ 63 % 2 ^ 52) (small (b % 2 ^ 63) k) (some (b % 2 ^ 63) p)
+          | inl e ↦ ap (root binary64) (v ∙ ap (λ (y : ℕ). ofFields binary64 true (y / 2 ^ 52) (y % 2 ^ 52)) e ∙ fields-infinite true 0 refl)
+          | inr k ↦ ap (root binary64) v ∙ negative-fields (b % 2 ^ 63 / 2 ^ 52) (b % 2 ^ 63 % 2 ^ 52) (finite (b % 2 ^ 63) k) (some (b % 2 ^ 63) p)
         ]
-
-pub root-of-zero : (b : ℕ) → b < 2 ^ 64 → b % 2 ^ 63 ≡ 0 → b ≡ rootBits b
-root-of-zero b l e = elim (le-or-lt (2 ^ 63) b) [
-  | inl g ↦ let z : b ≡ 2 ^ 63 = omega arith in z ∙ sym root-minus-zero ∙ ap rootBits (sym z)
-  | inr g ↦ let z : b ≡ 0 = omega arith in z ∙ sym root-zero ∙ ap rootBits (sym z)
-]
