@@ -2,12 +2,12 @@
 -- Sizes are counted in the format's smallest value, as in Rounding.antt.
 use mathlib.Core.Path.{_≡_, sym, ap, _∙_, subst}
 use mathlib.Core.Logic.{inl, inr}
-use Prim.Native.Nat.{ℕ, suc, _+_, _-_, _*_, _^_, _≤_, _<_, compare, Ordering, Ordering·lt, Ordering·eq, Ordering·gt}
+use Prim.Native.Nat.{ℕ, suc, _+_, _-_, _*_, _^_, _≤_, _<_}
 use native.Mathlib.Nat.{eq-or-lt-of-le, le-trans, le-of-eq, le-of-lt, lt-of-not-le, le-of-suc-le-suc, not-le-of-lt, le-of-mul-le-mul-left, add-mul, mul-assoc, mul-comm, mul-left-comm, mul-mul-mul-comm, mul-le-mul, mul-le-mul-left, mul-le-mul-right, mul-lt-mul-of-pos-right, pow-succ', zero-lt-suc}
 use native.Mathlib.Omega.{arith}
 use lib.Ieee.{Format, low}
 use Rattle.answers.specs.Numbers.{apart}
-use Rattle.floats.specs.Rounding.{Held, Even, NotAbove, NotBelow, ratio, rootOf, Nearest}
+use Rattle.floats.specs.Rounding.{Held, Even, ratio, rootOf, Nearest}
 use Rattle.floats.proofs.Compare.{le-or-lt, of-not-above, of-not-below}
 use Rattle.floats.proofs.Root.{square-lt}
 

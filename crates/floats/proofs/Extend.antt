@@ -1,10 +1,9 @@
 -- The arithmetic of `widen` and `mark`: from the whole root r of m to that of m * 4 ^ 27 by one division, and what is left over. Assumes nothing.
 use mathlib.Core.Path.{_≡_, refl, sym, ap, _∙_, subst}
-use mathlib.Core.Logic.{_⊎_, inl, inr}
 use Prim.Native.Nat.{ℕ, zero, suc, _+_, _-_, _*_, _/_, _%_, _^_, _≤_, _<_}
-use native.Mathlib.Nat.{le-trans, le-of-eq, le-of-lt, lt-of-lt-of-le, lt-of-le-of-lt, lt-of-not-le, not-le-of-lt, lt-irrefl, le-of-suc-le-suc, add-mul, mul-add, add-assoc, add-zero, mul-one, one-mul, mul-assoc, mul-comm, mul-right-comm, mul-mul-mul-comm, mul-le-mul, div-lt-iff-lt-mul, div-add-mod', mod-lt}
+use native.Mathlib.Nat.{le-trans, lt-of-lt-of-le, lt-of-not-le, not-le-of-lt, le-of-suc-le-suc, add-mul, mul-add, add-zero, mul-one, one-mul, mul-comm, mul-right-comm, mul-mul-mul-comm, mul-le-mul, div-lt-iff-lt-mul, div-add-mod', mod-lt}
 use native.Mathlib.Omega.{arith}
-use mathlib.Core.Bool.{Bool, true, false, not, cond}
+use mathlib.Core.Bool.{Bool, true, false, cond}
 use lib.Dec.{T, eqb, eqb→eq, lit≤}
 use lib.Ieee.Fits.{eq→eqb}
 use Rattle.floats.specs.Steps.{IsRoot, Close, Marked, sticky}

@@ -2,14 +2,14 @@
 use Prim.Native.Nat.{ℕ, zero, suc, _+_, _-_, _*_, _^_, _≤_, _<_}
 use mathlib.Core.Path.{_≡_, refl, sym, ap, _∙_, subst}
 use mathlib.Core.Bool.{Bool, true, false, not, _&&_, _||_, cond, Bool·beq, true≢false}
-use native.Mathlib.Nat.{zero-mul, mul-zero, mul-one, one-mul, mul-pos, sub-self, eq-of-mul-eq-mul-right}
+use native.Mathlib.Nat.{zero-mul, mul-one, one-mul, mul-pos, sub-self, eq-of-mul-eq-mul-right}
 use native.Mathlib.Omega.{arith}
-use lib.Dec.{T, leb, ltb, eqb, ltb→lt, eqb→eq, eqb-refl, lit<, nltb→le, T-not}
+use lib.Dec.{T, ltb, eqb, ltb→lt, eqb→eq, nltb→le, T-not}
 use lib.IntN.{ℤ, pos, negsuc}
 use lib.Pow.{pow-pos, pow-mono}
-use lib.Ieee.{Float, nan, inf, fin, Format, binary32, binary64, prec, emax, low, up, down, round, add, sub, neg, sum, eq, lt, fits}
+use lib.Ieee.{Float, nan, inf, fin, Format, binary64, prec, emax, low, up, down, round, add, sub, neg, sum, eq, lt, fits}
 use lib.Ieee.Fits.{down-pos, up-pos, eq→eqb, and-l, and-i}
-use lib.Ieee.Bits.{is-true, is-false}
+use lib.Ieee.Bits.{is-true}
 use lib.Ieee.Exact.{HasValue, round-exact}
 use lib.Ieee.Scale.{finite}
 use Rattle.floats.specs.Functions.{zero64, magnitude}

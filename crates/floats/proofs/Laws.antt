@@ -1,12 +1,12 @@
 -- What the crates above cite. `narrow-is` and `narrow-only`: `narrow` is the one float that `Narrows` admits; likewise the root, and both on patterns.
 use mathlib.Core.Path.{_≡_, refl, sym, ap, _∙_, subst}
 use Prim.Native.Nat.{ℕ, zero, suc, _*_}
-use mathlib.Core.Bool.{Bool, true, false}
+use mathlib.Core.Bool.{true, false}
 use lib.Dec.{T}
 use lib.Ieee.{Float, nan, inf, fin, Format, binary32, binary64, up, down, fits, ofBits, toBits}
 use lib.Ieee.Fits.{down-pos, round-fits, nan-fits, inf-fits}
 use lib.Ieee.Bits.{ofBits-toBits}
-use Rattle.floats.specs.Rounding.{ratio, rootOf, Rounded}
+use Rattle.floats.specs.Rounding.{ratio, rootOf}
 use Rattle.floats.specs.Operations.{Narrows, Roots, NarrowsBits, RootsBits}
 use Rattle.floats.specs.Functions.{narrow, root, rootRatio, narrowBits, rootBits}
 use Rattle.floats.proofs.Pattern.{rounded-one}

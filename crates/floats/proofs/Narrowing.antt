@@ -1,13 +1,13 @@
 -- The pattern that an f64's fields narrow to, in the four ranges of the exponent's field: overflow, normal, subnormal, too small.
-use mathlib.Core.Path.{_≡_, refl, sym, ap, _∙_, subst}
-use mathlib.Core.Logic.{_⊎_, inl, inr}
-use Prim.Native.Nat.{ℕ, zero, suc, _+_, _-_, _*_, _/_, _%_, _^_, _≤_, _<_, compare, Ordering, Ordering·lt, Ordering·eq, Ordering·gt}
+use mathlib.Core.Path.{_≡_, refl, sym, ap, _∙_}
+use mathlib.Core.Logic.{inl, inr}
+use Prim.Native.Nat.{ℕ, suc, _+_, _-_, _*_, _/_, _%_, _^_, _≤_, _<_, compare, Ordering, Ordering·lt, Ordering·eq, Ordering·gt}
 use native.Mathlib.Nat.{le-of-mul-le-mul-right, eq-or-lt-of-le, eq-zero-or-pos, zero-add, le-trans, le-of-eq, lt-of-lt-of-le, lt-of-le-of-lt, mul-assoc, mul-comm, mul-left-comm, mul-right-comm, mul-le-mul, mul-le-mul-right, mul-pos, div-eq-of-lt, mod-eq-of-lt, pow-succ', one-mul}
 use native.Mathlib.Omega.{arith}
 use mathlib.Core.Bool.{Bool, cond}
 use lib.Dec.{leb, lit<, lit≤}
 use lib.Pow.{pow-add, pow-pos, pow-mono, shr-lt}
-use lib.Ieee.{Float, nan, inf, fin, Format, binary32, binary64, prec, emax, low, up, down, ofFields, ofBits, toBits, nearest}
+use lib.Ieee.{Float, nan, inf, fin, Format, binary32, binary64, prec, emax, low, up, down, ofFields, toBits, nearest}
 use lib.Ieee.Fits.{down-pos, nearest-le}
 use lib.Ieee.Exact.{HasValue}
 use lib.Ieee.Nearest.{closest}

@@ -2,11 +2,11 @@
 -- That is so for subnormal results, for a carry into the next power of two, and at overflow, for either format. `pattern` says it for a quantity that compares with the sizes as m / 2 ^ d does.
 -- Assumes nothing.
 use mathlib.Core.Path.{_≡_, refl, sym, ap, _∙_, subst}
-use mathlib.Core.Logic.{_⊎_, inl, inr}
-use Prim.Native.Nat.{ℕ, zero, suc, _+_, _-_, _*_, _/_, _%_, _^_, _≤_, _<_, compare, Ordering, Ordering·lt, Ordering·eq, Ordering·gt}
-use native.Mathlib.Nat.{le-refl, le-trans, le-of-eq, le-of-lt, le-antisymm, le-of-suc-le-suc, lt-of-lt-of-le, lt-of-le-of-lt, lt-irrefl, eq-or-lt-of-le, lt-of-not-le, not-le-of-lt, add-assoc, mul-assoc, mul-comm, mul-left-comm, mul-right-comm, mul-one, one-mul, add-mul, suc-mul, mul-le-mul-right, mul-lt-mul-of-pos-right, lt-of-mul-lt-mul-right, le-of-mul-le-mul-right, mul-div-cancel, div-one, div-add-mod', mod-lt, pow-succ', mul-pos}
+use mathlib.Core.Logic.{inl, inr}
+use Prim.Native.Nat.{ℕ, suc, _+_, _-_, _*_, _/_, _%_, _^_, _≤_, _<_, compare, Ordering}
+use native.Mathlib.Nat.{le-refl, le-trans, le-of-eq, le-antisymm, le-of-suc-le-suc, lt-of-lt-of-le, lt-of-le-of-lt, lt-irrefl, eq-or-lt-of-le, lt-of-not-le, add-assoc, mul-assoc, mul-comm, mul-one, add-mul, suc-mul, mul-le-mul-right, le-of-mul-le-mul-right, mul-div-cancel, div-add-mod', mod-lt, pow-succ'}
 use native.Mathlib.Omega.{arith}
-use mathlib.Core.Bool.{Bool, true, false, not, cond}
+use mathlib.Core.Bool.{Bool, cond}
 use lib.Pow.{pow-add, pow-pos, pow-mono, pow-lt, shl-lt}
 use lib.Ieee.{Float, nan, inf, fin, Format, prec, emax, low, up, down, size, hid, ones, top, nearest, ofBits, toBits}
 use lib.Ieee.Bits.{ofBits-toBits}
@@ -14,7 +14,7 @@ use lib.Ieee.Fits.{two, reach, two-le-pos, down-pos, nearest-le}
 use lib.Ieee.Digits.{size-lt, size-le}
 use lib.Ieee.Exact.{HasValue}
 use lib.Ieee.Nearest.{closest, nearest-ge}
-use Rattle.floats.specs.Rounding.{Held, Even, Quantity, NotAbove, NotBelow, Nearest, Rounded}
+use Rattle.floats.specs.Rounding.{Quantity, NotAbove, NotBelow, Nearest, Rounded}
 use Rattle.floats.proofs.Compare.{le-or-lt, same-compare, not-above-of, not-below-of}
 use Rattle.floats.proofs.Round.{Ordered, Full, rounds, unique}
 

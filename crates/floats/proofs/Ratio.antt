@@ -1,22 +1,22 @@
 -- The logic's own `round` of a fraction is what IEEE 754 rounds it to (`round-rounded`), and so is `narrow` of a finite value (`narrow-rounded`).
 -- Assumes nothing.
-use mathlib.Core.Path.{_≡_, refl, sym, ap, _∙_, subst}
-use mathlib.Core.Logic.{_⊎_, inl, inr}
-use Prim.Native.Nat.{ℕ, zero, suc, _+_, _-_, _*_, _/_, _%_, _^_, _≤_, _<_, compare, Ordering, Ordering·lt, Ordering·eq, Ordering·gt}
-use native.Mathlib.Nat.{eq-or-lt-of-le, le-of-lt, le-trans, le-of-eq, lt-of-lt-of-le, eq-zero-or-pos, add-mul, mul-assoc, mul-comm, mul-left-comm, mul-right-comm, mul-lt-mul-of-pos-right, mul-pos, le-div-iff-mul-le, div-div-eq-div-mul, pow-succ'}
+use mathlib.Core.Path.{_≡_, sym, ap, _∙_, subst}
+use mathlib.Core.Logic.{inl, inr}
+use Prim.Native.Nat.{ℕ, suc, _+_, _-_, _*_, _/_, _^_, _≤_, _<_, compare}
+use native.Mathlib.Nat.{le-trans, le-of-eq, eq-zero-or-pos, mul-assoc, mul-comm, mul-left-comm, mul-lt-mul-of-pos-right, mul-pos, le-div-iff-mul-le, div-div-eq-div-mul, pow-succ'}
 use native.Mathlib.Omega.{arith}
-use mathlib.Core.Bool.{Bool, true, false, not, cond}
-use lib.Dec.{T, ltb, ltb→lt, nltb→le, lt→ltb}
+use mathlib.Core.Bool.{Bool}
+use lib.Dec.{ltb}
 use lib.Arith.{le→nltb}
 use lib.Pow.{pow-add, pow-pos}
 use lib.IntN.{ℤ}
-use lib.Ieee.{Float, nan, inf, fin, Format, binary32, prec, emax, low, up, down, size, hid, odd, units, round}
+use lib.Ieee.{Float, inf, fin, Format, binary32, prec, emax, low, up, down, size, odd, units, round}
 use lib.Ieee.Fits.{two, two-le-pos, kept-lt, round-is, round-fits, down-pos}
 use lib.Ieee.Digits.{size-reaches}
 use lib.Ieee.Exact.{HasValue, units-val}
 use lib.Ieee.Bits.{cond-no}
 use lib.Ieee.Nearest.{closest}
-use Rattle.floats.specs.Rounding.{Held, Even, Quantity, NotAbove, NotBelow, ratio, Nearest, Rounded}
+use Rattle.floats.specs.Rounding.{ratio, Rounded}
 use Rattle.floats.specs.Functions.{narrow}
 use Rattle.floats.proofs.Round.{Ordered, Full, ordered}
 use Rattle.floats.proofs.Pattern.{near-closest}

@@ -1,20 +1,20 @@
 -- `rootRatio` is what IEEE 754 rounds the square root of a fraction to (`root-rounded`), and its pattern by any whole root S with one digit more than the format keeps (`root-pattern`).
 -- Assumes nothing.
 use mathlib.Core.Path.{_≡_, refl, sym, ap, _∙_, subst}
-use mathlib.Core.Logic.{_⊎_, inl, inr}
-use Prim.Native.Nat.{ℕ, zero, suc, _+_, _-_, _*_, _/_, _%_, _^_, _≤_, _<_, compare, Ordering}
-use native.Mathlib.Nat.{le-refl, le-trans, le-of-eq, le-of-lt, lt-of-lt-of-le, lt-of-le-of-lt, lt-irrefl, not-le-of-lt, zero-lt-suc, add-mul, add-zero, zero-mul, mul-one, one-mul, mul-assoc, mul-comm, mul-left-comm, mul-right-comm, mul-mul-mul-comm, mul-le-mul, mul-le-mul-left, mul-le-mul-right, mul-lt-mul-of-pos-right, mul-pos, le-div-iff-mul-le, div-lt-iff-lt-mul, div-mul-le-self, pow-succ'}
+use mathlib.Core.Logic.{inr}
+use Prim.Native.Nat.{ℕ, zero, suc, _+_, _-_, _*_, _/_, _^_, _≤_, _<_, compare}
+use native.Mathlib.Nat.{le-refl, le-trans, le-of-eq, le-of-lt, lt-of-lt-of-le, lt-of-le-of-lt, zero-lt-suc, mul-one, mul-assoc, mul-comm, mul-left-comm, mul-mul-mul-comm, mul-le-mul, mul-le-mul-left, mul-le-mul-right, mul-lt-mul-of-pos-right, mul-pos, le-div-iff-mul-le, div-lt-iff-lt-mul, pow-succ'}
 use native.Mathlib.Omega.{arith}
 use mathlib.Core.Bool.{Bool, true, false, not, cond}
-use lib.Dec.{T, leb, ltb, eqb, leb→le, nleb→lt, eqb→eq, eqb-refl, T-not}
+use lib.Dec.{T, leb, eqb, leb→le, nleb→lt, eqb→eq}
 use lib.Arith.{lt-of-le-ne}
-use lib.Pow.{pow-add, pow-pos, pow-mono}
+use lib.Pow.{pow-pos}
 use lib.IntN.{ℤ}
-use lib.Ieee.{Float, fin, Format, binary64, prec, emax, low, up, down, size, hid, top, round, toBits}
-use lib.Ieee.Fits.{two, two-le-pos, down-pos, eq→eqb}
+use lib.Ieee.{Float, fin, Format, prec, emax, low, up, down, size, hid, round, toBits}
+use lib.Ieee.Fits.{down-pos, eq→eqb}
 use lib.Ieee.Digits.{size-lt}
 use lib.Ieee.Nearest.{closest}
-use Rattle.floats.specs.Rounding.{Quantity, ratio, rootOf, Nearest, Rounded}
+use Rattle.floats.specs.Rounding.{Quantity, ratio, rootOf, Rounded}
 use Rattle.floats.specs.Functions.{isqrt, wholeRoot, rootRatio, root}
 use Rattle.floats.specs.Steps.{IsRoot, sticky}
 use Rattle.floats.proofs.Compare.{same-compare, scaled}

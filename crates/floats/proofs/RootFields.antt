@@ -2,19 +2,18 @@
 use mathlib.Core.Path.{_≡_, refl, sym, ap, _∙_, subst}
 use mathlib.Core.Logic.{_⊎_, inl, inr}
 use Prim.Native.Nat.{ℕ, zero, suc, _+_, _-_, _*_, _/_, _%_, _^_, _≤_, _<_, compare}
-use native.Mathlib.Nat.{eq-or-lt-of-le, eq-zero-or-pos, le-trans, le-of-eq, le-of-lt, lt-of-lt-of-le, lt-of-le-of-lt, lt-of-not-le, not-le-of-lt, lt-irrefl, le-of-suc-le-suc, le-add-right, zero-lt-suc, add-comm, add-assoc, add-zero, zero-add, zero-mul, mul-one, mul-assoc, mul-comm, mul-left-comm, mul-right-comm, mul-le-mul, mul-le-mul-right, mul-lt-mul-of-pos-right, mul-pos, mod-lt, mod-eq-of-lt}
+use native.Mathlib.Nat.{eq-or-lt-of-le, eq-zero-or-pos, le-trans, le-of-eq, lt-of-le-of-lt, lt-of-not-le, not-le-of-lt, lt-irrefl, le-of-suc-le-suc, zero-lt-suc, zero-add, zero-mul, mul-one, mul-assoc, mul-comm, mul-left-comm, mul-le-mul, mul-le-mul-right, mul-pos, mod-lt, mod-eq-of-lt}
 use native.Mathlib.Omega.{arith}
-use mathlib.Core.Bool.{Bool, true, false, not, cond, true≢false}
-use lib.Dec.{T, leb, ltb, eqb, lit<, lit≤}
+use mathlib.Core.Bool.{true, false, true≢false}
 use lib.IntN.{ℤ}
 use borrow.Author.Tests.{lt-leb, le-leb}
 use lib.Pow.{pow-add, pow-pos, pow-mono}
-use lib.Ieee.{Float, nan, inf, fin, Format, binary64, up, down, ofFields, ofBits, toBits}
+use lib.Ieee.{Float, nan, inf, fin, binary64, up, down, ofFields, ofBits, toBits}
 use lib.Ieee.Fits.{down-pos, nearest-le}
 use lib.Ieee.Exact.{HasValue}
 use lib.Ieee.Nearest.{closest}
 use Rattle.floats.specs.Functions.{root, rootRatio, rootBits}
-use Rattle.floats.specs.Steps.{IsRoot, Marked, RootAt, Shifted, sticky}
+use Rattle.floats.specs.Steps.{IsRoot, RootAt, Shifted, sticky}
 use Rattle.floats.proofs.Root.{root-pattern}
 use Rattle.floats.proofs.Compare.{le-or-lt}
 use Rattle.floats.proofs.Fields.{by-fields, fields-normal, fields-subnormal, fields-infinite, nan-above}

@@ -4,14 +4,11 @@
 use mathlib.Core.Path.{_≡_, refl, sym, ap, _∙_, subst}
 use mathlib.Core.Logic.{_⊎_, inl, inr}
 use Prim.Native.Nat.{ℕ, zero, suc, _+_, _-_, _*_, _/_, _%_, _^_, _≤_, _<_, compare, Ordering, Ordering·lt, Ordering·eq, Ordering·gt}
-use native.Mathlib.Nat.{le-refl, le-trans, le-of-eq, le-of-lt, lt-of-lt-of-le, lt-of-le-of-lt, lt-irrefl, le-total, eq-or-lt-of-le, lt-of-not-le, not-le-of-lt, mul-assoc, mul-comm, mul-one, one-mul, add-mul, suc-mul, two-mul, mul-le-mul-right, mul-lt-mul-of-pos-right, lt-of-mul-lt-mul-right, pow-succ', pow-suc, add-zero, add-comm, sub-le, lt-trans, mod-lt, zero-lt-suc}
+use native.Mathlib.Nat.{le-refl, le-trans, le-of-eq, le-of-lt, lt-of-lt-of-le, lt-of-le-of-lt, lt-irrefl, eq-or-lt-of-le, not-le-of-lt, mul-assoc, one-mul, mul-le-mul-right, mul-lt-mul-of-pos-right, lt-of-mul-lt-mul-right, pow-succ', add-zero, add-comm, sub-le, mod-lt, zero-lt-suc}
 use native.Mathlib.Numerals.{add-one}
 use native.Mathlib.Omega.{arith}
-use mathlib.Core.Bool.{Bool, true, false, not}
-use lib.Dec.{T, leb, isLe, isEq, eqb, leb→le, nleb→lt, eqb→eq, eqb-refl}
-use lib.Arith.{lt-of-le-ne}
 use lib.Pow.{pow-add, pow-pos, pow-mono, pow-lt, shl-lt}
-use lib.Ieee.{Format, prec, low, hid, nearest}
+use lib.Ieee.{Format, prec, hid, nearest}
 use lib.Ieee.Fits.{two, two-le-pos}
 use lib.Ieee.Digits.{back}
 use Rattle.floats.specs.Rounding.{Held, Even, Quantity, NotAbove, NotBelow, Nearest}

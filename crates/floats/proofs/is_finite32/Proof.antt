@@ -1,6 +1,6 @@
 use Rattle.floats.proofs.is_finite32.Statement.{statement}
 use Rattle.floats.proofs.is_finite32.Tie as tie
-use lib.Ieee.{binary32, binary64, ofBits}
+use lib.Ieee.{binary32, ofBits}
 use Rattle.floats.proofs.Finite.{less-itself}
 
 returns : tie.Need-returns

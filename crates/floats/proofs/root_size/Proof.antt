@@ -1,6 +1,6 @@
 use borrow.Author.Needs.{needs}
-use mathlib.Core.Path.{_≡_, _∙_, sym}
-use Prim.Native.Nat.{ℕ, _/_, _%_, _^_}
+use mathlib.Core.Path.{_∙_, sym}
+use Prim.Native.Nat.{_/_, _%_, _^_}
 use native.Mathlib.Omega.{arith}
 use Rattle.floats.proofs.RootFields.{root-fields, root-normal, root-subnormal}
 use Rattle.floats.proofs.root_size.Statement.{statement}
