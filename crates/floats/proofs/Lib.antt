@@ -3,7 +3,7 @@ pub mod Round
 pub mod Pattern
 pub mod Ratio
 pub mod Root
-pub mod Even
+pub mod Ties
 pub mod Fields
 pub mod Narrowing
 pub mod Extend
