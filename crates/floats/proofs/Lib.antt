@@ -1,12 +1,12 @@
 pub mod Compare
 pub mod Round
 pub mod Pattern
-pub mod Ratio
-pub mod Root
+pub mod Fractions
+pub mod SquareRoots
 pub mod Ties
 pub mod Fields
 pub mod Narrowing
-pub mod Extend
+pub mod LongDivision
 pub mod RootFields
 pub mod Readback
 pub mod Rows

@@ -16,7 +16,7 @@ use Rattle.floats.specs.Functions.{narrow, narrowBits}
 use Rattle.floats.proofs.Compare.{le-or-lt, compare-lt, scaled, not-below-of}
 use Rattle.floats.proofs.Round.{Ordered, Full, not-below}
 use Rattle.floats.proofs.Pattern.{pattern, bits-inf}
-use Rattle.floats.proofs.Ratio.{ratio-ordered, narrow-rounded}
+use Rattle.floats.proofs.Fractions.{ratio-ordered, narrow-rounded}
 use Rattle.floats.proofs.Fields.{fields-normal, fields-subnormal, fields-infinite, by-fields, nan-above}
 
 -- ---- a value M * 2 ^ w / 2 ^ 1074

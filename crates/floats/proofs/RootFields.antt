@@ -14,7 +14,7 @@ use lib.Ieee.Exact.{HasValue}
 use lib.Ieee.Nearest.{closest}
 use Rattle.floats.specs.Functions.{root, rootRatio, rootBits}
 use Rattle.floats.specs.Steps.{IsRoot, RootAt, Shifted, sticky}
-use Rattle.floats.proofs.Root.{root-pattern}
+use Rattle.floats.proofs.SquareRoots.{root-pattern}
 use Rattle.floats.proofs.Compare.{le-or-lt}
 use Rattle.floats.proofs.Fields.{by-fields, fields-normal, fields-subnormal, fields-infinite, nan-above}
 

@@ -1,5 +1,5 @@
 use borrow.Author.Needs.{needs}
-use Rattle.floats.proofs.Extend.{mark-down, mark-down-more, mark-level, mark-more}
+use Rattle.floats.proofs.LongDivision.{mark-down, mark-down-more, mark-level, mark-more}
 use Rattle.floats.proofs.mark.Statement.{statement}
 use Rattle.floats.proofs.mark.Tie as tie
 

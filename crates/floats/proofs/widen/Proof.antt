@@ -1,6 +1,6 @@
 use borrow.Author.Needs.{needs}
 use native.Mathlib.Omega.{arith}
-use Rattle.floats.proofs.Extend.{root-low, root-high, rest-le, quotient-le, square-le, left-lt, wide-is, wide-close}
+use Rattle.floats.proofs.LongDivision.{root-low, root-high, rest-le, quotient-le, square-le, left-lt, wide-is, wide-close}
 use Rattle.floats.proofs.widen.Statement.{statement}
 use Rattle.floats.proofs.widen.Tie as tie
 

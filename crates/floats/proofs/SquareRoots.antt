@@ -1,12 +1,12 @@
--- `rootRatio` is what IEEE 754 rounds the square root of a fraction to (`root-rounded`), and its pattern by any whole root S with one digit more than the format keeps (`root-pattern`).
--- Assumes nothing.
+-- `rootRatio` is what IEEE 754 rounds the square root of a fraction to (`root-rounded`), and its pattern comes of any whole root S with one digit more than
+-- the format keeps (`root-pattern`).
 use mathlib.Core.Path.{_≡_, refl, sym, ap, _∙_, subst}
 use mathlib.Core.Logic.{inr}
-use Prim.Native.Nat.{ℕ, zero, suc, _+_, _-_, _*_, _/_, _^_, _≤_, _<_, compare}
+use Prim.Native.Nat.{ℕ, zero, suc, zero-le, _+_, _-_, _*_, _/_, _^_, _≤_, _<_, compare}
 use native.Mathlib.Nat.{le-refl, le-trans, le-of-eq, le-of-lt, lt-of-lt-of-le, lt-of-le-of-lt, zero-lt-suc, mul-one, mul-assoc, mul-comm, mul-left-comm, mul-mul-mul-comm, mul-le-mul, mul-le-mul-left, mul-le-mul-right, mul-lt-mul-of-pos-right, mul-pos, le-div-iff-mul-le, div-lt-iff-lt-mul, pow-succ'}
 use native.Mathlib.Omega.{arith}
 use mathlib.Core.Bool.{Bool, true, false, not, cond}
-use lib.Dec.{T, leb, eqb, leb→le, nleb→lt, eqb→eq}
+use lib.Dec.{T, leb, eqb, leb→le, nleb→lt, eqb→eq, lit≤}
 use lib.Arith.{lt-of-le-ne}
 use lib.Pow.{pow-pos}
 use lib.IntN.{ℤ}
@@ -20,96 +20,58 @@ use Rattle.floats.specs.Steps.{IsRoot, sticky}
 use Rattle.floats.proofs.Compare.{same-compare, scaled}
 use Rattle.floats.proofs.Round.{Ordered, ordered}
 use Rattle.floats.proofs.Pattern.{pattern}
-use Rattle.floats.proofs.Ratio.{round-rounded}
+use Rattle.floats.proofs.Fractions.{round-rounded}
 
 -- ---- the whole root
+
 four-times : (r : ℕ) → 2 * r * (2 * r) ≡ 4 * (r * r)
 four-times r = mul-mul-mul-comm 2 r 2 r
 
-doubled : (r : ℕ) → 2 * r + 1 + 1 ≡ 2 * (r + 1)
-doubled r = omega arith
-
-quarter-low : (n s t : ℕ) → s ≤ n / 4 → t ≡ 4 * s → t ≤ n
-quarter-low n s t h e = omega arith
-
-quarter-high : (n s t : ℕ) → n / 4 < s → t ≡ 4 * s → n < t
-quarter-high n s t h e = omega arith
-
 next-four : (r : ℕ) → (2 * r + 1 + 1) * (2 * r + 1 + 1) ≡ 4 * ((r + 1) * (r + 1))
-next-four r = ap (λ (y : ℕ). y * y) (doubled r) ∙ four-times (r + 1)
+next-four r = let e : 2 * r + 1 + 1 ≡ 2 * (r + 1) = omega arith in ap (λ (y : ℕ). y * y) e ∙ four-times (r + 1)
 
 shorter : (n d : ℕ) → n < 4 ^ suc d → n / 4 < 4 ^ d
 shorter n d h = div-lt-iff-lt-mul (zero-lt-suc 3) .1 (subst (λ (y : ℕ). n < y) (pow-succ' 4 d ∙ mul-comm 4 (4 ^ d)) h)
 
-pub isqrt-is : (d n : ℕ) → n < 4 ^ d → IsRoot n (isqrt d n)
+-- from the root r of a quarter of n to that of n
+from-quarter : (n r : ℕ) → IsRoot (n / 4) r → IsRoot n (cond (leb ((2 * r + 1) * (2 * r + 1)) n) (2 * r + 1) (2 * r))
+from-quarter n r h = go (leb ((2 * r + 1) * (2 * r + 1)) n) (leb→le ((2 * r + 1) * (2 * r + 1)) n) (nleb→lt ((2 * r + 1) * (2 * r + 1)) n)
+  where
+    go : (b : Bool) → (T b → (2 * r + 1) * (2 * r + 1) ≤ n) → (T (not b) → n < (2 * r + 1) * (2 * r + 1)) → IsRoot n (cond b (2 * r + 1) (2 * r))
+    go true a b = (a tt, omega (arith, h .1, next-four r))
+    go false a b = (omega (arith, h .0, four-times r), b tt)
+
+isqrt-is : (d n : ℕ) → n < 4 ^ d → IsRoot n (isqrt d n)
 unfolding isqrt
-isqrt-is zero n h = (zero-le-any n, h)
-  where
-    zero-le-any : (n : ℕ) → 0 ≤ n
-    zero-le-any n = omega arith
-isqrt-is (suc d) n h =
-    let r = isqrt d (n / 4) in
-    let ih = isqrt-is d (n / 4) (shorter n d h) in
-    go (leb ((2 * r + 1) * (2 * r + 1)) n) (leb→le ((2 * r + 1) * (2 * r + 1)) n) (nleb→lt ((2 * r + 1) * (2 * r + 1)) n)
-    (quarter-low n (r * r) (2 * r * (2 * r)) (ih .0) (four-times r))
-    (quarter-high n ((r + 1) * (r + 1)) ((2 * r + 1 + 1) * (2 * r + 1 + 1)) (ih .1) (next-four r))
-  where
-    go : (b : Bool) → (T b → (2 * isqrt d (n / 4) + 1) * (2 * isqrt d (n / 4) + 1) ≤ n) → (T (not b) → n < (2 * isqrt d (n / 4) + 1) * (2 * isqrt d (n / 4) + 1))
-        → 2 * isqrt d (n / 4) * (2 * isqrt d (n / 4)) ≤ n → n < (2 * isqrt d (n / 4) + 1 + 1) * (2 * isqrt d (n / 4) + 1 + 1)
-        → IsRoot n (cond b (2 * isqrt d (n / 4) + 1) (2 * isqrt d (n / 4)))
-    go true a b l u = (a tt, u)
-    go false a b l u = (l, b tt)
+isqrt-is zero n h = (zero-le, h)
+isqrt-is (suc d) n h = from-quarter n (isqrt d (n / 4)) (isqrt-is d (n / 4) (shorter n d h))
 
 pow-le : (z : ℕ) → 2 ^ z ≤ 4 ^ z
 pow-le zero = le-refl 1
-pow-le (suc z) = le-trans (le-of-eq (pow-succ' 2 z)) (le-trans (mul-le-mul two-four (pow-le z)) (le-of-eq (sym (pow-succ' 4 z))))
-  where
-    two-four : 2 ≤ 4
-    two-four = omega arith
+pow-le (suc z) = le-trans (le-of-eq (pow-succ' 2 z)) (le-trans (mul-le-mul (lit≤ {m = 2} {n = 4} tt) (pow-le z)) (le-of-eq (sym (pow-succ' 4 z))))
 
-pub whole-is : (n : ℕ) → IsRoot n (wholeRoot n)
+whole-is : (n : ℕ) → IsRoot n (wholeRoot n)
 unfolding wholeRoot
 whole-is n = isqrt-is (size n) n (lt-of-lt-of-le (size-lt n) (pow-le (size n)))
 
 -- ---- r whole halves, and a half of one more where the root is not r, compare with each h as the root does
 pub square-lt : (a b : ℕ) → a < b → a * a < b * b
-square-lt a b h = lt-of-le-of-lt (mul-le-mul-left a (le-of-lt h)) (mul-lt-mul-of-pos-right h (lt-of-le-of-lt (zero-le a) h))
-  where
-    zero-le : (a : ℕ) → 0 ≤ a
-    zero-le a = omega arith
+square-lt a b h = lt-of-le-of-lt (mul-le-mul-left a (le-of-lt h)) (mul-lt-mul-of-pos-right h (lt-of-le-of-lt zero-le h))
 
-half-lt : (r h : ℕ) → 2 * r + 0 < 2 * h → r < h
-half-lt r h l = omega arith
-
-half-eq : (r h : ℕ) → 2 * r + 0 ≡ 2 * h → r ≡ h
-half-eq r h l = omega arith
-
-half-gt : (r h : ℕ) → 2 * h < 2 * r + 0 → h < r
-half-gt r h l = omega arith
-
-more-lt : (r h : ℕ) → 2 * r + 1 < 2 * h → r + 1 ≤ h
-more-lt r h l = omega arith
-
-more-eq : (r h : ℕ) → 2 * r + 1 ≡ 2 * h → ⊥
-more-eq r h l = omega arith
-
-more-gt : (r h : ℕ) → 2 * h < 2 * r + 1 → h ≤ r
-more-gt r h l = omega arith
-
-pub root-order : (n b r h : ℕ) → 0 < b → r * r * b ≤ n → n < (r + 1) * (r + 1) * b → compare (2 * r + sticky (r * r * b) n) (2 * h) ≡ compare n (h * h * b)
+root-order : (n b r h : ℕ) → 0 < b → r * r * b ≤ n → n < (r + 1) * (r + 1) * b → compare (2 * r + sticky (r * r * b) n) (2 * h) ≡ compare n (h * h * b)
 root-order n b r h B lo hi = go (eqb (r * r * b) n) (eqb→eq (r * r * b) n) (λ (e : r * r * b ≡ n). eq→eqb e)
   where
     go : (t : Bool) → (T t → r * r * b ≡ n) → (r * r * b ≡ n → T t) → compare (2 * r + cond t 0 1) (2 * h) ≡ compare n (h * h * b)
     go true e k =
         same-compare (2 * r + 0) (2 * h) n (h * h * b)
-        (λ l. subst (λ (y : ℕ). y < h * h * b) (e tt) (mul-lt-mul-of-pos-right (square-lt r h (half-lt r h l)) B))
-        (λ l. sym (e tt) ∙ ap (λ (y : ℕ). y * y * b) (half-eq r h l))
-        (λ l. subst (λ (y : ℕ). h * h * b < y) (e tt) (mul-lt-mul-of-pos-right (square-lt h r (half-gt r h l)) B))
+        (λ l. subst (λ (y : ℕ). y < h * h * b) (e tt) (mul-lt-mul-of-pos-right (square-lt r h (omega arith)) B))
+        (λ l. let i : r ≡ h = omega arith in sym (e tt) ∙ ap (λ (y : ℕ). y * y * b) i)
+        (λ l. subst (λ (y : ℕ). h * h * b < y) (e tt) (mul-lt-mul-of-pos-right (square-lt h r (omega arith)) B))
     go false e k =
         same-compare (2 * r + 1) (2 * h) n (h * h * b)
-        (λ l. lt-of-lt-of-le hi (mul-le-mul-right b (mul-le-mul (more-lt r h l) (more-lt r h l))))
-        (λ l. absurd (more-eq r h l))
-        (λ l. lt-of-le-of-lt (mul-le-mul-right b (mul-le-mul (more-gt r h l) (more-gt r h l))) (lt-of-le-ne lo (λ (d : r * r * b ≡ n). k d)))
+        (λ l. let i : r + 1 ≤ h = omega arith in lt-of-lt-of-le hi (mul-le-mul-right b (mul-le-mul i i)))
+        (λ l. absurd (omega arith))
+        (λ l. let i : h ≤ r = omega arith in lt-of-le-of-lt (mul-le-mul-right b (mul-le-mul i i)) (lt-of-le-ne lo k))
 
 -- ---- the definition is the rounded root
 pub root-ordered : (f : Format) (a b : ℕ) → 0 < b → Ordered (rootOf f a b)
