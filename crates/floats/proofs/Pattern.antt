@@ -1,6 +1,5 @@
 -- The bit pattern of a rounded quantity: where the quantity lies between q * 2 ^ k and the next size, the pattern is k * hid plus q or q + 1, with the sign before it.
 -- That is so for subnormal results, for a carry into the next power of two, and at overflow, for either format. `pattern` says it for a quantity that compares with the sizes as m / 2 ^ d does.
--- Assumes nothing.
 use mathlib.Core.Path.{_≡_, refl, sym, ap, _∙_, subst}
 use mathlib.Core.Logic.{inl, inr}
 use Prim.Native.Nat.{ℕ, suc, _+_, _-_, _*_, _/_, _%_, _^_, _≤_, _<_, compare, Ordering}

@@ -1,4 +1,4 @@
--- From the marked root of a scaled significand to the pattern of the root, for a pattern of a finite number above zero. Assumes nothing.
+-- From the marked root of a scaled significand to the pattern of the root, for a pattern of a finite number above zero.
 use mathlib.Core.Path.{_≡_, refl, sym, ap, _∙_, subst}
 use mathlib.Core.Logic.{_⊎_, inl, inr}
 use Prim.Native.Nat.{ℕ, zero, suc, _+_, _-_, _*_, _/_, _%_, _^_, _≤_, _<_, compare}

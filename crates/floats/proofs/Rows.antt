@@ -1,4 +1,4 @@
--- Rows P11 and P12, by computation of the definitions. Assumes nothing.
+-- Rows P11 and P12, by computation of the definitions.
 use mathlib.Core.Path.{_≡_, refl}
 use lib.Ieee.{round, toBits, ofBits, ofFields, odd, size, span, climb, units}
 use lib.Count.{trailingZeros}

@@ -16,6 +16,12 @@ pub record NarrowedSize (size r : ℕ) : Type 0 where
 abbrev pub IsRoot : ℕ → ℕ → Type 0
 IsRoot n r = (r * r ≤ n) × (n < (r + 1) * (r + 1))
 
+-- r is the whole root of an m with 53 or 54 digits
+pub record Started (m r : ℕ) : Type 0 where
+  pub at-least : 2 ^ 52 ≤ m
+  pub below : m < 2 ^ 54
+  pub is : IsRoot m r
+
 -- 0 where a is n, else 1
 abbrev pub sticky : ℕ → ℕ → ℕ
 sticky a n = cond (eqb a n) 0 1

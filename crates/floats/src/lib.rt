@@ -7,7 +7,7 @@ ghost use Rattle.floats.specs.Operations.{Narrows, Roots, NarrowsBits, R
 ghost use lib.Ieee.Scale.{finite};
 ghost use Rattle.floats.specs.Functions;
 ghost use Rattle.floats.specs.Functions.{rootBits};
-ghost use Rattle.floats.specs.Steps.{NarrowedSize, IsRoot, RootAt, Close, Marked, Shifted};
+ghost use Rattle.floats.specs.Steps.{NarrowedSize, IsRoot, Started, Close, Marked, Shifted, RootAt};
 
 // An f64's pattern: the sign, eleven digits of the exponent's field, 52 digits below the leading one. SIGN and LEADING are the weights of
 // the sign and of the exponent's field, which is that of the leading digit too.
@@ -119,7 +119,7 @@ struct Wide {
 
 // From the whole root r of m to one of m * 4^27, by one long division.
 fn widen(m: u64, r: u64) -> Wide
-    requires { ⌜ (2 ^ 52 ≤ m) × (m < 2 ^ 54) × IsRoot m r ⌝ }
+    requires { ⌜ Started m r ⌝ }
     ensures { λ w. ⌜ (w .s * w .s + w .have ≡ m * 2 ^ 54 + w .want) × Close (w .s) (w .have) (w .want) ⌝ }
 {
     let top = (m - r * r) * 0x400_0000;

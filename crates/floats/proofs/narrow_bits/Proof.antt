@@ -1,3 +1,4 @@
+-- `floats::narrow_bits` meets its contract: a NaN, and else the narrowed size with the sign before it.
 use borrow.Author.Needs.{needs}
 use mathlib.Core.Path.{_∙_, sym}
 use Prim.Native.Nat.{_^_}

@@ -1,3 +1,4 @@
+-- `floats::narrow_size` meets its contract, in the four ranges of the exponent's field.
 use borrow.Author.Needs.{needs}
 use Prim.Native.Nat.{ℕ, _+_, _-_, _*_, _/_, _%_, _^_}
 use native.Mathlib.Omega.{arith}
