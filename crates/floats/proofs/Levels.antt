@@ -92,9 +92,9 @@ below n (fin false m e) (fin false k d) s h l = cancel (m * up e) (k * up d) (n 
     cancel m n v de dd p h e = le-of-mul-le-mul-right (le-trans h (le-of-eq (ap (λ (z : ℕ). z * de) (sym (mul-one n) ∙ e) ∙ mul-right-comm v dd de))) p
 
 -- the format has n times the largest f32 among its values
-pub record Reaches (f : Format) (n : ℕ) : Type 0 where
-  pub digits : n * (2 ^ 24 - 1) < 2 ^ prec f
-  pub range : n * (2 ^ 24 - 1) * 2 ^ (104 + low f) < 2 ^ (low f + suc (emax f))
+record Reaches (f : Format) (n : ℕ) : Type 0 where
+  digits : n * (2 ^ 24 - 1) < 2 ^ prec f
+  range : n * (2 ^ 24 - 1) * 2 ^ (104 + low f) < 2 ^ (low f + suc (emax f))
 
 reaches32 : Reaches binary32 1
 reaches32 = record { digits = lit< tt; range = lit< tt }
@@ -107,7 +107,7 @@ reaches64 n h =
       range = lt-of-lt-of-le (shl-lt 32 (104 + low binary64) d) (pow-mono {i = 32 + (104 + low binary64)} {j = low binary64 + 1024} (lit≤ tt));
     }
 
-pub round-at-most : (f : Format) (n a c : ℕ) → Reaches f n → 0 < c → a ≤ n * largest * c → AtMost n (round f false a c)
+round-at-most : (f : Format) (n a c : ℕ) → Reaches f n → 0 < c → a ≤ n * largest * c → AtMost n (round f false a c)
 round-at-most f n a c r p l =
     below n (round f false a c) (round f false (n * largest) 1) (round-plus f a c)
     (round-exact f false (n * largest) 1 (n * (2 ^ 24 - 1)) (104 + low f) (lit< tt) (r .digits) (r .range) (shift n (2 ^ 24 - 1) (2 ^ 104) (2 ^ low f) (2 ^ (104 + low f)) (pow-add 2 104 (low f))))

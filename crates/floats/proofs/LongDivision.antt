@@ -1,11 +1,12 @@
 -- The arithmetic of `widen` and `mark`: from the whole root r of m to that of m * 4 ^ 27 by one division, and what is left over.
 use mathlib.Core.Path.{_≡_, refl, sym, ap, _∙_, subst}
 use Prim.Native.Nat.{ℕ, zero, suc, _+_, _-_, _*_, _/_, _%_, _^_, _≤_, _<_}
-use native.Mathlib.Nat.{le-trans, lt-of-lt-of-le, lt-of-not-le, not-le-of-lt, le-of-suc-le-suc, add-mul, mul-add, add-zero, mul-one, one-mul, mul-comm, mul-right-comm, mul-mul-mul-comm, mul-le-mul, div-lt-iff-lt-mul, div-add-mod', mod-lt}
+use native.Mathlib.Nat.{lt-of-lt-of-le, le-of-suc-le-suc, add-mul, mul-add, add-zero, mul-one, one-mul, mul-comm, mul-right-comm, mul-mul-mul-comm, mul-le-mul, div-lt-iff-lt-mul, div-add-mod', mod-lt}
 use native.Mathlib.Omega.{arith}
 use mathlib.Core.Bool.{Bool, true, false, cond}
 use lib.Dec.{T, eqb, eqb→eq, lit≤}
 use lib.Ieee.Fits.{eq→eqb}
+use Rattle.floats.proofs.SquareRoots.{root-from, root-to}
 use Rattle.floats.specs.Steps.{IsRoot, Started, Close, Marked, sticky}
 
 square : (r b q : ℕ) → (r * b + q) * (r * b + q) ≡ r * r * (b * b) + r * q * b + (r * q * b + q * q)
@@ -19,13 +20,10 @@ next-square r = add-mul r 1 (r + 1) ∙ ap (λ (y : ℕ). y + 1 * (r + 1)) (mul-
 
 module _ {m r : ℕ} (S : Started m r) where
   pub root-low : 2 ^ 26 ≤ r
-  root-low = le-of-suc-le-suc (lt-of-not-le (λ (g : suc r ≤ 2 ^ 26). not-le-of-lt (S .is .1) (le-trans (mul-le-mul (one r g) (one r g)) (S .at-least))))
-    where
-      one : (r : ℕ) → suc r ≤ 2 ^ 26 → r + 1 ≤ 2 ^ 26
-      one r g = omega arith
+  root-low = root-from (2 ^ 26) m r (S .is) (S .at-least)
 
   pub root-high : r < 2 ^ 27
-  root-high = lt-of-not-le (λ (g : 2 ^ 27 ≤ r). not-le-of-lt (S .below) (le-trans (mul-le-mul g g) (S .is .0)))
+  root-high = root-to (2 ^ 27) m r (S .is) (S .below)
 
   pub rest-le : m - r * r ≤ 2 * r
   rest-le = omega (arith, next-square r, S .is .0, S .is .1)

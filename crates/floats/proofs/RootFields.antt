@@ -1,8 +1,8 @@
--- From the marked root of a scaled significand to the pattern of the root, for a pattern of a finite number above zero.
+-- The pattern of an f64's root by its fields: from the marked root of the scaled significand, for a finite number above zero; then the other patterns.
 use mathlib.Core.Path.{_≡_, refl, sym, ap, _∙_, subst}
 use mathlib.Core.Logic.{_⊎_, inl, inr}
 use Prim.Native.Nat.{ℕ, zero, suc, _+_, _-_, _*_, _/_, _%_, _^_, _≤_, _<_, compare}
-use native.Mathlib.Nat.{eq-or-lt-of-le, eq-zero-or-pos, le-trans, le-of-eq, lt-of-le-of-lt, lt-of-not-le, not-le-of-lt, lt-irrefl, le-of-suc-le-suc, zero-lt-suc, zero-add, zero-mul, mul-one, mul-assoc, mul-comm, mul-left-comm, mul-le-mul, mul-le-mul-right, mul-pos, mod-lt, mod-eq-of-lt}
+use native.Mathlib.Nat.{eq-or-lt-of-le, eq-zero-or-pos, le-trans, le-of-eq, lt-of-le-of-lt, lt-irrefl, le-of-suc-le-suc, zero-lt-suc, zero-add, zero-mul, mul-one, mul-assoc, mul-comm, mul-left-comm, mul-le-mul, mul-le-mul-right, mul-pos, mod-lt, mod-eq-of-lt}
 use native.Mathlib.Omega.{arith}
 use mathlib.Core.Bool.{true, false, true≢false}
 use lib.IntN.{ℤ}
@@ -13,8 +13,8 @@ use lib.Ieee.Fits.{down-pos, nearest-le}
 use lib.Ieee.Exact.{HasValue}
 use lib.Ieee.Nearest.{closest}
 use Rattle.floats.specs.Functions.{root, rootRatio, rootBits}
-use Rattle.floats.specs.Steps.{IsRoot, RootAt, Shifted, sticky}
-use Rattle.floats.proofs.SquareRoots.{root-pattern}
+use Rattle.floats.specs.Steps.{RootAt, Shifted, sticky}
+use Rattle.floats.proofs.SquareRoots.{root-from, root-to, root-pattern}
 use Rattle.floats.proofs.Compare.{le-or-lt}
 use Rattle.floats.proofs.Fields.{by-fields, fields-normal, fields-subnormal, fields-infinite, nan-above}
 
@@ -41,16 +41,6 @@ part-le m e = le-trans (mul-le-mul (le-of-eq refl) (le-of-suc-le-suc (mod-lt e (
 
 pub quarter-le : (w : ℕ) → closest w 4 ≤ suc (w / 4)
 quarter-le w = nearest-le (w / 4) (compare (w % 4 * 2) 4)
-
--- ---- the size of the whole root
-root-from : (N S : ℕ) → IsRoot N S → 2 ^ 106 ≤ N → 2 ^ 53 ≤ S
-root-from N S h l = le-of-suc-le-suc (lt-of-not-le (λ (g : suc S ≤ 2 ^ 53). not-le-of-lt (h .1) (le-trans (mul-le-mul (one S g) (one S g)) l)))
-  where
-    one : (S : ℕ) → suc S ≤ 2 ^ 53 → S + 1 ≤ 2 ^ 53
-    one S g = omega arith
-
-root-to : (N S : ℕ) → IsRoot N S → N < 2 ^ 108 → S < 2 ^ 54
-root-to N S h l = lt-of-not-le (λ (g : 2 ^ 54 ≤ S). not-le-of-lt l (le-trans (mul-le-mul g g) (h .0)))
 
 -- ---- the powers of two
 halves : (E : ℕ) → E % 2 + (E / 2 + E / 2) ≡ E
@@ -85,7 +75,7 @@ high-bound N c h k = lt-of-le-of-lt (mul-le-mul-right (2 ^ 54) (mul-le-mul (le-o
     twice : (N : ℕ) → N < 2 ^ 53 → N * 2 * 2 ^ 54 < 2 ^ 108
     twice N h = omega arith
 
-pub root-at : (v : Float) (M w z E N r : ℕ) → HasValue v false (M * 2 ^ w) (2 ^ 1074) → 0 < M → N ≡ M * 2 ^ z → 2 ^ 52 ≤ N → N < 2 ^ 53 → z + E ≡ w + 1022 → E < 4092 → RootAt N E r → r ≡ toBits binary64 (root binary64 v)
+root-at : (v : Float) (M w z E N r : ℕ) → HasValue v false (M * 2 ^ w) (2 ^ 1074) → 0 < M → N ≡ M * 2 ^ z → 2 ^ 52 ≤ N → N < 2 ^ 53 → z + E ≡ w + 1022 → E < 4092 → RootAt N E r → r ≡ toBits binary64 (root binary64 v)
 root-at nan M w z E N r v p e lo hi s f R = absurd v
 root-at (inf t) M w z E N r v p e lo hi s f R = absurd v
 root-at (fin true m x) M w z E N r v p e lo hi s f R = absurd (true≢false (v .0))
@@ -105,8 +95,8 @@ root-at (fin false (suc m) x) M w z E N r v p e lo hi s f R =
     ∙ sym (root-pattern binary64 a b P S k (down-pos x)
     (scale a b (v .1) ∙ powers M b z c k w (ap (λ (y : ℕ). z + y) (halves E) ∙ s) ∙ ap (λ (y : ℕ). y * 2 ^ c * 2 ^ 54 * (2 ^ k * 2 ^ k * b)) (sym e))
     (R .is .is)
-    (root-from P S (R .is .is) (low-bound N (2 ^ c) lo (pow-pos c)))
-    (root-to P S (R .is .is) (high-bound N (2 ^ c) hi c-le))
+    (root-from (2 ^ 53) P S (R .is .is) (low-bound N (2 ^ c) lo (pow-pos c)))
+    (root-to (2 ^ 54) P S (R .is .is) (high-bound N (2 ^ c) hi c-le))
     (half E f))
     ∙ sym (ap (toBits binary64) (root-value m x))
   where

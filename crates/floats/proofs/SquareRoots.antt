@@ -3,7 +3,7 @@
 use mathlib.Core.Path.{_≡_, refl, sym, ap, _∙_, subst}
 use mathlib.Core.Logic.{inr}
 use Prim.Native.Nat.{ℕ, zero, suc, zero-le, _+_, _-_, _*_, _/_, _^_, _≤_, _<_, compare}
-use native.Mathlib.Nat.{le-refl, le-trans, le-of-eq, le-of-lt, lt-of-lt-of-le, lt-of-le-of-lt, zero-lt-suc, mul-one, mul-assoc, mul-comm, mul-left-comm, mul-mul-mul-comm, mul-le-mul, mul-le-mul-left, mul-le-mul-right, mul-lt-mul-of-pos-right, mul-pos, le-div-iff-mul-le, div-lt-iff-lt-mul, pow-succ'}
+use native.Mathlib.Nat.{le-refl, le-trans, le-of-eq, le-of-lt, lt-of-lt-of-le, lt-of-le-of-lt, lt-of-not-le, not-le-of-lt, le-of-suc-le-suc, zero-lt-suc, mul-one, mul-assoc, mul-comm, mul-left-comm, mul-mul-mul-comm, mul-le-mul, mul-le-mul-left, mul-le-mul-right, mul-lt-mul-of-pos-right, mul-pos, le-div-iff-mul-le, div-lt-iff-lt-mul, pow-succ'}
 use native.Mathlib.Omega.{arith}
 use mathlib.Core.Bool.{Bool, true, false, not, cond}
 use lib.Dec.{T, leb, eqb, leb→le, nleb→lt, eqb→eq, lit≤}
@@ -45,6 +45,13 @@ isqrt-is : (d n : ℕ) → n < 4 ^ d → IsRoot n (isqrt d n)
 unfolding isqrt
 isqrt-is zero n h = (zero-le, h)
 isqrt-is (suc d) n h = from-quarter n (isqrt d (n / 4)) (isqrt-is d (n / 4) (shorter n d h))
+
+-- bounds of n, as bounds of its whole root
+pub root-from : (w n r : ℕ) → IsRoot n r → w * w ≤ n → w ≤ r
+root-from w n r h l = le-of-suc-le-suc (lt-of-not-le (λ (g : suc r ≤ w). let i : r + 1 ≤ w = omega arith in not-le-of-lt (h .1) (le-trans (mul-le-mul i i) l)))
+
+pub root-to : (w n r : ℕ) → IsRoot n r → n < w * w → r < w
+root-to w n r h l = lt-of-not-le (λ (g : w ≤ r). not-le-of-lt l (le-trans (mul-le-mul g g) (h .0)))
 
 pow-le : (z : ℕ) → 2 ^ z ≤ 4 ^ z
 pow-le zero = le-refl 1
