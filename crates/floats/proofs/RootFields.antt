@@ -75,12 +75,15 @@ high-bound N c h k = lt-of-le-of-lt (mul-le-mul-right (2 ^ 54) (mul-le-mul (le-o
     twice : (N : ℕ) → N < 2 ^ 53 → N * 2 * 2 ^ 54 < 2 ^ 108
     twice N h = omega arith
 
+-- a value whose size is above 0 has digits
+no-zero : (x : ℤ) (a : ℕ) → 0 * up x * 2 ^ 1074 ≡ a * down x → 0 < a → ⊥
+no-zero x a e p = lt-irrefl 0 (subst (λ (y : ℕ). 0 < y) (sym e ∙ ap (λ (y : ℕ). y * 2 ^ 1074) (zero-mul (up x)) ∙ zero-mul (2 ^ 1074)) (mul-pos p (down-pos x)))
+
 root-at : (v : Float) (M w z E N r : ℕ) → HasValue v false (M * 2 ^ w) (2 ^ 1074) → 0 < M → N ≡ M * 2 ^ z → 2 ^ 52 ≤ N → N < 2 ^ 53 → z + E ≡ w + 1022 → E < 4092 → RootAt N E r → r ≡ toBits binary64 (root binary64 v)
 root-at nan M w z E N r v p e lo hi s f R = absurd v
 root-at (inf t) M w z E N r v p e lo hi s f R = absurd v
 root-at (fin true m x) M w z E N r v p e lo hi s f R = absurd (true≢false (v .0))
-root-at (fin false zero x) M w z E N r v p e lo hi s f R =
-    absurd (lt-irrefl 0 (subst (λ (y : ℕ). 0 < y) (sym (sym (ap (λ (y : ℕ). y * 2 ^ 1074) (zero-mul (up x)) ∙ zero-mul (2 ^ 1074)) ∙ v .1)) (mul-pos (mul-pos p (pow-pos w)) (down-pos x))))
+root-at (fin false zero x) M w z E N r v p e lo hi s f R = absurd (no-zero x (M * 2 ^ w) (v .1) (mul-pos p (pow-pos w)))
 root-at (fin false (suc m) x) M w z E N r v p e lo hi s f R =
     let a = suc m * up x in
     let b = down x in
@@ -163,8 +166,7 @@ unfolding root
 negative nan a v p = absurd v
 negative (inf t) a v p = absurd v
 negative (fin false m x) a v p = absurd (true≢false (sym (v .0)))
-negative (fin true zero x) a v p =
-    absurd (lt-irrefl 0 (subst (λ (y : ℕ). 0 < y) (sym (v .1) ∙ ap (λ (y : ℕ). y * 2 ^ 1074) (zero-mul (up x)) ∙ zero-mul (2 ^ 1074)) (mul-pos p (down-pos x))))
+negative (fin true zero x) a v p = absurd (no-zero x a (v .1) p)
 negative (fin true (suc m) x) a v p = refl
 
 negative-fields : (x t : ℕ) → x < 2047 → 0 < x + t → root binary64 (ofFields binary64 true x t) ≡ nan
