@@ -68,6 +68,7 @@ module _ {m r : ℕ} (S : Started m r) where
       go (suc q) h = some q (suc q * suc q) root-low (mul-le-mul h h)
 
 -- ---- what is left over
+
 sticky-none : (a n : ℕ) → a ≡ n → sticky a n ≡ 0
 sticky-none a n e = go (eqb a n) (eq→eqb e)
   where
@@ -89,6 +90,7 @@ pub inexact : (n s w : ℕ) → IsRoot n s → (s * s ≡ n → ⊥) → w ≡ s
 inexact n s w h e d = record { whole = s; is = h; marked = d ∙ ap (λ (y : ℕ). y + 1) (mul-comm s 2) ∙ ap (λ (y : ℕ). 2 * s + y) (sym (sticky-some (s * s) n e)) }
 
 -- ---- `mark`
+
 module _ {s have want : ℕ} (C : Close s have want) where
   one-less : s - 1 + 1 ≡ s
   one-less = omega (arith, C .some)
