@@ -1,28 +1,24 @@
--- A float less itself is 0 exactly where it is finite. The absolute value. Assumes nothing.
+-- Why the code's tests are right: a float less itself is 0 exactly where it is finite, and the absolute value goes by x == 0 and x < 0.
 use Prim.Native.Nat.{ℕ, zero, suc, _+_, _-_, _*_, _^_, _≤_, _<_}
 use mathlib.Core.Path.{_≡_, refl, sym, ap, _∙_, subst}
 use mathlib.Core.Bool.{Bool, true, false, not, _&&_, _||_, cond, Bool·beq, true≢false}
-use native.Mathlib.Nat.{zero-mul, mul-zero, mul-one, one-mul, mul-pos, sub-self, eq-of-mul-eq-mul-right}
+use native.Mathlib.Nat.{le-refl, zero-mul, mul-one, one-mul, mul-pos, sub-self, eq-of-mul-eq-mul-right}
 use native.Mathlib.Omega.{arith}
-use lib.Dec.{T, leb, ltb, eqb, ltb→lt, eqb→eq, eqb-refl, lit<, nltb→le, T-not}
+use lib.Dec.{T, ltb, eqb, ltb→lt, eqb→eq, nltb→le, T-not}
+use borrow.Author.Tests.{le-ltb}
 use lib.IntN.{ℤ, pos, negsuc}
 use lib.Pow.{pow-pos, pow-mono}
-use lib.Ieee.{Float, nan, inf, fin, Format, binary32, binary64, prec, emax, low, up, down, round, add, sub, neg, sum, eq, lt, fits}
+use lib.Ieee.{Float, nan, inf, fin, Format, binary64, prec, emax, low, up, down, round, add, sub, neg, sum, eq, lt, fits}
 use lib.Ieee.Fits.{down-pos, up-pos, eq→eqb, and-l, and-i}
-use lib.Ieee.Bits.{is-true, is-false}
+use lib.Ieee.Bits.{is-true}
 use lib.Ieee.Exact.{HasValue, round-exact}
 use lib.Ieee.Scale.{finite}
 use Rattle.floats.specs.Functions.{zero64, magnitude}
 
-not-below-itself : (a : ℕ) → ltb a a ≡ false
-not-below-itself a = go (ltb a a) (ltb→lt a a)
-  where
-    go : (b : Bool) → (T b → a < a) → b ≡ false
-    go true h = absurd (omega (arith, h tt))
-    go false h = refl
+-- ---- x - x == 0
 
-zero-val : (f : Format) (c : ℕ) → 0 < c → HasValue (round f false 0 c) false 0 c
-zero-val f c p = round-exact f false 0 c 0 0 p (pow-pos (prec f)) (pow-pos (low f + suc (emax f))) (zero-mul (2 ^ low f) ∙ sym (ap (λ (z : ℕ). z * c) (zero-mul (2 ^ 0)) ∙ zero-mul c))
+zero-value : (f : Format) (c : ℕ) → 0 < c → HasValue (round f false 0 c) false 0 c
+zero-value f c p = round-exact f false 0 c 0 0 p (pow-pos (prec f)) (pow-pos (low f + suc (emax f))) (zero-mul (2 ^ low f) ∙ sym (ap (λ (z : ℕ). z * c) (zero-mul (2 ^ 0)) ∙ zero-mul c))
 
 is-zero : (x : Float) (c : ℕ) → 0 < c → HasValue x false 0 c → eq x zero64 ≡ true
 unfolding eq
@@ -34,22 +30,19 @@ is-zero (fin false m e) c p h =
     let b : m * up e * 1 ≡ 0 * down e = mul-one (m * up e) ∙ a ∙ sym (zero-mul (down e)) in
     ap (λ (z : Bool). z && true) (is-true (eqb (m * up e * 1) (0 * down e)) (eq→eqb b))
 
--- what `sum` makes of a and -a
-collapses : (f : Format) (b : Bool) (x : Float) (a c : ℕ) → b ≡ false → 0 < c → eq (cond b x (round f false (a - a) c)) zero64 ≡ true
-collapses f true x a c e p = absurd (true≢false e)
-collapses f false x a c e p = subst (λ (z : ℕ). eq (round f false z c) zero64 ≡ true) (sym (sub-self a)) (is-zero (round f false 0 c) c p (zero-val f c p))
-
-collapses' : (f : Format) (b : Bool) (x : Float) (a c : ℕ) → b ≡ false → 0 < c → eq (cond b x (round f b (a - a) c)) zero64 ≡ true
-collapses' f true x a c e p = absurd (true≢false e)
-collapses' f false x a c e p = collapses f false x a c e p
+-- what `sum` makes of a and -a: b says whether a is below a, s the sign of the difference
+collapses : (f : Format) (b s : Bool) (x : Float) (a c : ℕ) → b ≡ false → s ≡ false → 0 < c → eq (cond b x (round f s (a - a) c)) zero64 ≡ true
+collapses f true s x a c e d p = absurd (true≢false e)
+collapses f false true x a c e d p = absurd (true≢false d)
+collapses f false false x a c e d p = subst (λ (z : ℕ). eq (round f false z c) zero64 ≡ true) (sym (sub-self a)) (is-zero (round f false 0 c) c p (zero-value f c p))
 
 pub less-itself : (f : Format) (x : Float) → eq (sub f x x) zero64 ≡ finite x
 unfolding sub add neg eq sum
 less-itself f nan = refl
 less-itself f (inf true) = refl
 less-itself f (inf false) = refl
-less-itself f (fin true m e) = collapses' f (ltb (m * up e * down e) (m * up e * down e)) _ (m * up e * down e) (down e * down e) (not-below-itself (m * up e * down e)) (mul-pos (down-pos e) (down-pos e))
-less-itself f (fin false m e) = collapses f (ltb (m * up e * down e) (m * up e * down e)) _ (m * up e * down e) (down e * down e) (not-below-itself (m * up e * down e)) (mul-pos (down-pos e) (down-pos e))
+less-itself f (fin true m e) = let a = m * up e * down e in let n = le-ltb a a (le-refl a) in collapses f (ltb a a) (ltb a a) _ a (down e * down e) n n (mul-pos (down-pos e) (down-pos e))
+less-itself f (fin false m e) = let a = m * up e * down e in collapses f (ltb a a) false _ a (down e * down e) (le-ltb a a (le-refl a)) refl (mul-pos (down-pos e) (down-pos e))
 
 -- ---- the absolute value by tests
 

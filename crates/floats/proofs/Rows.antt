@@ -1,6 +1,5 @@
--- Rows P11 and P12, by computation of the definitions. Assumes nothing.
+-- Rows P11 and P12, by computation of the definitions.
 use mathlib.Core.Path.{_≡_, refl}
-use Prim.Native.Nat.{ℕ}
 use lib.Ieee.{round, toBits, ofBits, ofFields, odd, size, span, climb, units}
 use lib.Count.{trailingZeros}
 use Rattle.floats.specs.Functions.{narrowBits, rootBits, narrow, root, rootRatio, wholeRoot, isqrt}

@@ -7,14 +7,20 @@ use lib.Ieee.{binary32, binary64, ofFields, toBits}
 use lib.Ieee.Nearest.{closest}
 use Rattle.floats.specs.Functions.{narrow}
 
--- r is the pattern, without its sign, that the f64 with the pattern `mag` before its sign narrows to
-pub record NarrowedSize (mag r : ℕ) : Type 0 where
+-- r is the pattern, without its sign, that the f64 with the pattern `size` below its sign narrows to
+pub record NarrowedSize (size r : ℕ) : Type 0 where
   pub below : r < 2 ^ 31
-  pub is : (s : Bool) → toBits binary32 (narrow (ofFields binary64 s (mag / 2 ^ 52) (mag % 2 ^ 52))) ≡ cond s (2 ^ 31) 0 + r
+  pub is : (s : Bool) → toBits binary32 (narrow (ofFields binary64 s (size / 2 ^ 52) (size % 2 ^ 52))) ≡ cond s (2 ^ 31) 0 + r
 
 -- r is the whole root of n
 abbrev pub IsRoot : ℕ → ℕ → Type 0
 IsRoot n r = (r * r ≤ n) × (n < (r + 1) * (r + 1))
+
+-- r is the whole root of an m with 53 or 54 digits
+pub record Started (m r : ℕ) : Type 0 where
+  pub at-least : 2 ^ 52 ≤ m
+  pub below : m < 2 ^ 54
+  pub is : IsRoot m r
 
 -- 0 where a is n, else 1
 abbrev pub sticky : ℕ → ℕ → ℕ

@@ -7,7 +7,26 @@ ghost use Rattle.floats.specs.Operations.{Narrows, Roots, NarrowsBits, R
 ghost use lib.Ieee.Scale.{finite};
 ghost use Rattle.floats.specs.Functions;
 ghost use Rattle.floats.specs.Functions.{rootBits};
-ghost use Rattle.floats.specs.Steps.{NarrowedSize, IsRoot, RootAt, Close, Marked, Shifted};
+ghost use Rattle.floats.specs.Steps.{NarrowedSize, IsRoot, Started, Close, Marked, Shifted, RootAt};
+
+// An f64's pattern: the sign, eleven digits of the exponent's field, 52 digits below the leading one. SIGN and LEADING are the weights of
+// the sign and of the exponent's field, which is that of the leading digit too.
+const SIGN: u64 = 0x8000_0000_0000_0000;
+
+const LEADING: u64 = 0x10_0000_0000_0000;
+
+const INFINITE: u64 = 0x7ff0_0000_0000_0000;
+
+const NO_NUMBER: u64 = 0x7ff8_0000_0000_0000;
+
+// The same of an f32's pattern.
+const SIGN_32: u64 = 0x8000_0000;
+
+const LEADING_32: u64 = 0x80_0000;
+
+const INFINITE_32: u64 = 0x7f80_0000;
+
+const NO_NUMBER_32: u32 = 0x7fc0_0000;
 
 fn pow2(k: u64) -> u64
     requires { ⌜ k < 64 ⌝ }
@@ -34,39 +53,45 @@ fn to_even(m: u64, k: u64) -> u64
     q + q % 2
 }
 
-// The size part of the narrowed pattern, for a size part that is no NaN's.
-fn narrow_size(mag: u64) -> u64
-    requires { ⌜ mag ≤ 0x7ff0_0000_0000_0000 ⌝ }
-    ensures { λ r. ⌜ NarrowedSize mag r ⌝ }
+// ---- narrowing
+
+// The narrowed pattern without its sign, for a pattern without its sign that is no NaN's. In an f32's smallest values, 2^-149, the number is
+// m / 2^(926 - x): too large, too small, subnormal or normal. A carry out of the digits adds one to the exponent's field, as it should.
+fn narrow_size(size: u64) -> u64
+    requires { ⌜ size ≤ 0x7ff0_0000_0000_0000 ⌝ }
+    ensures { λ r. ⌜ NarrowedSize size r ⌝ }
 {
-    let x = mag / 0x10_0000_0000_0000;
-    let t = mag % 0x10_0000_0000_0000;
+    let x = size / LEADING;
+    let t = size % LEADING;
     if 1150 < x {
-        return 0x7f80_0000;
+        return INFINITE_32;
     }
     if x < 873 {
         return 0;
     }
-    let m = t + 0x10_0000_0000_0000;
+    let m = t + LEADING;
     if x < 897 {
         return to_even(m, 926 - x);
     }
-    (x - 897) * 0x80_0000 + to_even(m, 29)
+    (x - 897) * LEADING_32 + to_even(m, 29)
 }
 
+// The pattern of an f64, narrowed to an f32's.
 pub fn narrow_bits(b: u64) -> u32
     ensures { λ r. ⌜ NarrowsBits b r ⌝ }
 {
-    let mag = b % 0x8000_0000_0000_0000;
-    if 0x7ff0_0000_0000_0000 < mag {
-        return 0x7fc0_0000;
+    let size = b % SIGN;
+    if INFINITE < size {
+        return NO_NUMBER_32;
     }
-    let r = narrow_size(mag);
-    if b < 0x8000_0000_0000_0000 {
+    let r = narrow_size(size);
+    if b < SIGN {
         return r as u32;
     }
-    (r + 0x8000_0000) as u32
+    (r + SIGN_32) as u32
 }
+
+// ---- the square root
 
 // The whole root of m, bit by bit.
 fn half_root(m: u64) -> u64
@@ -94,7 +119,7 @@ struct Wide {
 
 // From the whole root r of m to one of m * 4^27, by one long division.
 fn widen(m: u64, r: u64) -> Wide
-    requires { ⌜ (2 ^ 52 ≤ m) × (m < 2 ^ 54) × IsRoot m r ⌝ }
+    requires { ⌜ Started m r ⌝ }
     ensures { λ w. ⌜ (w .s * w .s + w .have ≡ m * 2 ^ 54 + w .want) × Close (w .s) (w .have) (w .want) ⌝ }
 {
     let top = (m - r * r) * 0x400_0000;
@@ -140,26 +165,11 @@ fn shift_up(t: u64) -> Up
 {
     let mut m = t;
     let mut z: u64 = 0;
-    while m < 0x10_0000_0000_0000 {
+    while m < LEADING {
         m = m * 2;
         z = z + 1;
     }
     Up { m, z }
-}
-
-// The root's pattern, for a pattern of a finite number above zero.
-fn root_size(b: u64) -> u64
-    requires { ⌜ (0 < b) × (b < 0x7ff0_0000_0000_0000) ⌝ }
-    ensures { λ r. ⌜ r ≡ rootBits b ⌝ }
-{
-    let x = b / 0x10_0000_0000_0000;
-    let t = b % 0x10_0000_0000_0000;
-    if 0 < x {
-        return root_scaled(t + 0x10_0000_0000_0000, x + 1021);
-    }
-    let up = shift_up(t);
-    let z = up.z;
-    root_scaled(up.m, 1022 - z)
 }
 
 // The pattern of the root of m * 2^(e - 2096), for an m of 53 digits.
@@ -169,25 +179,43 @@ fn root_scaled(m: u64, e: u64) -> u64
 {
     let n = m + m * (e % 2);
     let w = mark(widen(n, half_root(n)));
-    e / 2 * 0x10_0000_0000_0000 + to_even(w, 2)
+    e / 2 * LEADING + to_even(w, 2)
 }
 
+// The root's pattern, for a pattern of a finite number above zero.
+fn root_size(b: u64) -> u64
+    requires { ⌜ (0 < b) × (b < 0x7ff0_0000_0000_0000) ⌝ }
+    ensures { λ r. ⌜ r ≡ rootBits b ⌝ }
+{
+    let x = b / LEADING;
+    let t = b % LEADING;
+    if 0 < x {
+        return root_scaled(t + LEADING, x + 1021);
+    }
+    let up = shift_up(t);
+    let z = up.z;
+    root_scaled(up.m, 1022 - z)
+}
+
+// The pattern of an f64's square root.
 pub fn root_bits(b: u64) -> u64
     ensures { λ r. ⌜ RootsBits b r ⌝ }
 {
-    if b % 0x8000_0000_0000_0000 == 0 {
+    if b % SIGN == 0 {
         return b;
     }
-    if b < 0x7ff0_0000_0000_0000 {
+    if b < INFINITE {
         return root_size(b);
     }
-    if b == 0x7ff0_0000_0000_0000 {
-        return b;
+    if b == INFINITE {
+        return INFINITE;
     }
-    0x7ff8_0000_0000_0000
+    NO_NUMBER
 }
 
-// On floats. A NaN has no bits in the logic, so it is made by a division.
+// ---- on floats. A NaN has no pattern in the logic, so it is made by a division.
+
+// An f64 as an f32, rounded.
 pub fn narrowed(x: f64) -> f32
     ensures { λ r. ⌜ Narrows x r ⌝ }
 {
@@ -195,7 +223,7 @@ pub fn narrowed(x: f64) -> f32
         return 0.0 / 0.0;
     }
     let n = narrow_bits(f64::to_bits(x));
-    if n == 0x7fc0_0000 {
+    if n == NO_NUMBER_32 {
         return 0.0 / 0.0;
     }
     f32::from_bits(n)
@@ -208,7 +236,7 @@ pub fn square_root(x: f64) -> f64
         return 0.0 / 0.0;
     }
     let n = root_bits(f64::to_bits(x));
-    if n == 0x7ff8_0000_0000_0000 {
+    if n == NO_NUMBER {
         return 0.0 / 0.0;
     }
     f64::from_bits(n)

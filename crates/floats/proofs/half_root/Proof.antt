@@ -1,5 +1,5 @@
--- `half_root` meets its contract. The loop's invariant: the root is from r up to below r + 2 ^ i. Assumes nothing.
-use mathlib.Core.Path.{_≡_, sym, ap, _∙_, subst}
+-- `floats::half_root` meets its contract. The loop's invariant: the root is from r up to below r + 2 ^ i.
+use mathlib.Core.Path.{_≡_, ap, _∙_, subst}
 use Prim.Native.Nat.{ℕ, suc, _+_, _-_, _*_, _^_, _≤_, _<_}
 use native.Mathlib.Nat.{lt-of-le-of-lt, mul-le-mul, two-pow-succ}
 use lib.Dec.{lit<}
@@ -8,20 +8,12 @@ use borrow.Author.Needs.{needs}
 use Rattle.floats.proofs.half_root.Statement.{statement}
 use Rattle.floats.proofs.half_root.Tie as tie
 
-none : (i : ℕ) → i ≤ 0 → i ≡ 0
-none i h = omega arith
-
-suc-pred : (i : ℕ) → 0 < i → suc (i - 1) ≡ i
-suc-pred i h = omega arith
-
 split : (i : ℕ) → 0 < i → 2 ^ i ≡ 2 ^ (i - 1) + 2 ^ (i - 1)
-split i h = ap (λ (y : ℕ). 2 ^ y) (sym (suc-pred i h)) ∙ two-pow-succ (i - 1)
+split i h = let e : i ≡ suc (i - 1) = omega arith in ap (λ (y : ℕ). 2 ^ y) e ∙ two-pow-succ (i - 1)
 
-regroup : (r w p q : ℕ) → w ≡ q + q → p ≡ q → r + w ≡ r + p + q
-regroup r w p q e d = omega arith
-
+-- the upper half starts at r + p
 sum-is : (r i p : ℕ) → 0 < i → p ≡ 2 ^ (i - 1) → r + 2 ^ i ≡ r + p + 2 ^ (i - 1)
-sum-is r i p h e = regroup r (2 ^ i) p (2 ^ (i - 1)) (split i h) e
+sum-is r i p h e = omega (arith, split i h)
 
 half : (r i p : ℕ) → 0 < i → p ≡ 2 ^ (i - 1) → r + 2 ^ i ≤ 2 ^ 27 → r + p ≤ 2 ^ 27
 half r i p h e l = omega (arith, sum-is r i p h e)
@@ -45,7 +37,9 @@ add-c : tie.Need-add-c Inv-loop μ-loop
 add-c c = omega (arith, half (c .before .before .loop .r) (c .before .before .loop .i) (c .pow2 .result) (search needs) (c .pow2 .ensures) (c .before .before .loop .inv .1))
 
 mul-if1 : tie.Need-mul-if1 Inv-loop μ-loop
-mul-if1 c = record { fits = lt-of-le-of-lt (mul-le-mul (half (c .before .before .loop .r) (c .before .before .loop .i) (c .pow2 .result) (search needs) (c .pow2 .ensures) (c .before .before .loop .inv .1)) (half (c .before .before .loop .r) (c .before .before .loop .i) (c .pow2 .result) (search needs) (c .pow2 .ensures) (c .before .before .loop .inv .1))) (lit< tt) }
+mul-if1 c =
+    let h = half (c .before .before .loop .r) (c .before .before .loop .i) (c .pow2 .result) (search needs) (c .pow2 .ensures) (c .before .before .loop .inv .1) in
+    record { fits = lt-of-le-of-lt (mul-le-mul h h) (lit< tt) }
 
 loop-less : tie.Need-loop-less Inv-loop μ-loop
 loop-less c = omega arith
@@ -71,7 +65,9 @@ loop-again-2 c =
     )
 
 returns : tie.Need-returns Inv-loop μ-loop
-returns c = (c .before .loop .inv .2, subst (λ (y : ℕ). c .before .before .args .m < (c .before .loop .r + 2 ^ y) * (c .before .loop .r + 2 ^ y)) (none (c .before .loop .i) (search needs)) (c .before .loop .inv .3))
+returns c =
+    let none : c .before .loop .i ≡ 0 = omega arith in
+    (c .before .loop .inv .2, subst (λ (y : ℕ). c .before .before .args .m < (c .before .loop .r + 2 ^ y) * (c .before .loop .r + 2 ^ y)) none (c .before .loop .inv .3))
 
 pub half-root-spec : {M : Type 1} → statement M
 half-root-spec =

@@ -1,5 +1,5 @@
 -- `floats::magnitude` meets its contract.
-use mathlib.Core.Path.{sym, subst, ap}
+use mathlib.Core.Path.{sym, subst}
 use mathlib.Core.Bool.{Bool, not}
 use lib.Dec.{T}
 use lib.Ieee.{ofBits}

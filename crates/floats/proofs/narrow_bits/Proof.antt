@@ -1,17 +1,17 @@
+-- `floats::narrow_bits` meets its contract: a NaN, and else the narrowed size with the sign before it.
 use borrow.Author.Needs.{needs}
-use mathlib.Core.Path.{_≡_, _∙_, sym}
+use mathlib.Core.Path.{_∙_, sym}
 use Prim.Native.Nat.{_^_}
 use native.Mathlib.Nat.{add-comm, zero-add}
-use native.Mathlib.Omega.{arith}
 use borrow.Author.Tests.{le-leb, lt-leb}
 use mathlib.Core.Bool.{true, false}
-use Rattle.floats.proofs.Narrow.{narrow-nan, narrow-by}
+use Rattle.floats.proofs.Narrowing.{narrow-nan, narrow-by}
 use Rattle.floats.proofs.Laws.{narrow-bits-meets}
 use Rattle.floats.proofs.narrow_bits.Statement.{statement}
 use Rattle.floats.proofs.narrow_bits.Tie as tie
 
 returns : tie.Need-returns
-returns c = narrow-bits-meets (c .before .args .b) _ (sym (narrow-nan (c .before .args .b) (c .if1 .taken)))
+returns c = narrow-bits-meets (c .before .args .b) _ (narrow-nan (c .before .args .b) (c .if1 .taken))
 
 narrow-size-requires : tie.Need-narrow-size-requires
 narrow-size-requires c κs = search needs

@@ -1,9 +1,10 @@
+-- `floats::root_scaled` meets its contract: what the parts ensure, one after the other.
 use borrow.Author.Needs.{needs}
-use mathlib.Core.Path.{_≡_, _∙_, ap, sym, subst}
+use mathlib.Core.Path.{_≡_, _∙_, ap, subst}
 use Prim.Native.Nat.{ℕ, _+_, _-_, _*_, _/_, _%_, _^_}
 use native.Mathlib.Omega.{arith}
 use Rattle.floats.specs.Steps.{Marked}
-use Rattle.floats.proofs.Whole.{once-or-twice, part-le, quarter-le}
+use Rattle.floats.proofs.RootFields.{once-or-twice, part-le, quarter-le}
 use Rattle.floats.proofs.root_scaled.Statement.{statement}
 use Rattle.floats.proofs.root_scaled.Tie as tie
 
@@ -20,7 +21,7 @@ half-root-requires : tie.Need-half-root-requires
 half-root-requires c κs = (omega arith, omega (arith, part-le (c .args .m) (c .args .e)))
 
 widen-requires : tie.Need-widen-requires
-widen-requires c κs = (omega arith, omega (arith, part-le (c .before .args .m) (c .before .args .e)), c .half-root .ensures)
+widen-requires c κs = record { at-least = omega arith; below = omega (arith, part-le (c .before .args .m) (c .before .args .e)); is = c .half-root .ensures }
 
 mark-requires : tie.Need-mark-requires
 mark-requires c κs = search needs

@@ -1,13 +1,13 @@
--- The arithmetic of `widen` and `mark`: from the whole root r of m to that of m * 4 ^ 27 by one division, and what is left over. Assumes nothing.
+-- The arithmetic of `widen` and `mark`: from the whole root r of m to that of m * 4 ^ 27 by one division, and what is left over.
 use mathlib.Core.Path.{_≡_, refl, sym, ap, _∙_, subst}
-use mathlib.Core.Logic.{_⊎_, inl, inr}
 use Prim.Native.Nat.{ℕ, zero, suc, _+_, _-_, _*_, _/_, _%_, _^_, _≤_, _<_}
-use native.Mathlib.Nat.{le-trans, le-of-eq, le-of-lt, lt-of-lt-of-le, lt-of-le-of-lt, lt-of-not-le, not-le-of-lt, lt-irrefl, le-of-suc-le-suc, add-mul, mul-add, add-assoc, add-zero, mul-one, one-mul, mul-assoc, mul-comm, mul-right-comm, mul-mul-mul-comm, mul-le-mul, div-lt-iff-lt-mul, div-add-mod', mod-lt}
+use native.Mathlib.Nat.{lt-of-lt-of-le, le-of-suc-le-suc, add-mul, mul-add, add-zero, mul-one, one-mul, mul-comm, mul-right-comm, mul-mul-mul-comm, mul-le-mul, div-lt-iff-lt-mul, div-add-mod', mod-lt}
 use native.Mathlib.Omega.{arith}
-use mathlib.Core.Bool.{Bool, true, false, not, cond}
+use mathlib.Core.Bool.{Bool, true, false, cond}
 use lib.Dec.{T, eqb, eqb→eq, lit≤}
 use lib.Ieee.Fits.{eq→eqb}
-use Rattle.floats.specs.Steps.{IsRoot, Close, Marked, sticky}
+use Rattle.floats.proofs.SquareRoots.{root-from, root-to}
+use Rattle.floats.specs.Steps.{IsRoot, Started, Close, Marked, sticky}
 
 square : (r b q : ℕ) → (r * b + q) * (r * b + q) ≡ r * r * (b * b) + r * q * b + (r * q * b + q * q)
 square r b q =
@@ -18,18 +18,15 @@ square r b q =
 next-square : (r : ℕ) → (r + 1) * (r + 1) ≡ r * r + r + (r + 1)
 next-square r = add-mul r 1 (r + 1) ∙ ap (λ (y : ℕ). y + 1 * (r + 1)) (mul-add r r 1 ∙ ap (λ (y : ℕ). r * r + y) (mul-one r)) ∙ ap (λ (y : ℕ). r * r + r + y) (one-mul (r + 1))
 
-module _ (m r : ℕ) (lo : 2 ^ 52 ≤ m) (hi : m < 2 ^ 54) (R : IsRoot m r) where
+module _ {m r : ℕ} (S : Started m r) where
   pub root-low : 2 ^ 26 ≤ r
-  root-low = le-of-suc-le-suc (lt-of-not-le (λ (g : suc r ≤ 2 ^ 26). not-le-of-lt (R .1) (le-trans (mul-le-mul (one r g) (one r g)) lo)))
-    where
-      one : (r : ℕ) → suc r ≤ 2 ^ 26 → r + 1 ≤ 2 ^ 26
-      one r g = omega arith
+  root-low = root-from (2 ^ 26) m r (S .is) (S .at-least)
 
   pub root-high : r < 2 ^ 27
-  root-high = lt-of-not-le (λ (g : 2 ^ 27 ≤ r). not-le-of-lt hi (le-trans (mul-le-mul g g) (R .0)))
+  root-high = root-to (2 ^ 27) m r (S .is) (S .below)
 
   pub rest-le : m - r * r ≤ 2 * r
-  rest-le = omega (arith, next-square r, R .0, R .1)
+  rest-le = omega (arith, next-square r, S .is .0, S .is .1)
 
   pub quotient-le : (m - r * r) * 2 ^ 26 / r ≤ 2 ^ 27
   quotient-le = le-of-suc-le-suc (div-lt-iff-lt-mul (lt-of-lt-of-le (lit≤ tt) root-low) .1 (under ((m - r * r)) rest-le root-low))
@@ -46,7 +43,7 @@ module _ (m r : ℕ) (lo : 2 ^ 52 ≤ m) (hi : m < 2 ^ 54) (R : IsRoot m r) wher
   pub wide-is : (r * 2 ^ 27 + (m - r * r) * 2 ^ 26 / r) * (r * 2 ^ 27 + (m - r * r) * 2 ^ 26 / r) + (m - r * r) * 2 ^ 26 % r * 2 ^ 28 ≡ m * 2 ^ 54 + (m - r * r) * 2 ^ 26 / r * ((m - r * r) * 2 ^ 26 / r)
   wide-is =
       let q = (m - r * r) * 2 ^ 26 / r in
-      sums m (r * r) (r * q) (q * q) ((m - r * r) * 2 ^ 26 % r) ((r * 2 ^ 27 + q) * (r * 2 ^ 27 + q)) (R .0) (square r (2 ^ 27) q)
+      sums m (r * r) (r * q) (q * q) ((m - r * r) * 2 ^ 26 % r) ((r * 2 ^ 27 + q) * (r * 2 ^ 27 + q)) (S .is .0) (square r (2 ^ 27) q)
       (ap (λ (y : ℕ). y + (m - r * r) * 2 ^ 26 % r) (mul-comm r q) ∙ div-add-mod' ((m - r * r) * 2 ^ 26) r)
     where
       sums : (m a p s v z : ℕ) → a ≤ m → z ≡ a * 2 ^ 54 + p * 2 ^ 27 + (p * 2 ^ 27 + s) → p + v ≡ (m - a) * 2 ^ 26 → z + v * 2 ^ 28 ≡ m * 2 ^ 54 + s
@@ -71,6 +68,7 @@ module _ (m r : ℕ) (lo : 2 ^ 52 ≤ m) (hi : m < 2 ^ 54) (R : IsRoot m r) wher
       go (suc q) h = some q (suc q * suc q) root-low (mul-le-mul h h)
 
 -- ---- what is left over
+
 sticky-none : (a n : ℕ) → a ≡ n → sticky a n ≡ 0
 sticky-none a n e = go (eqb a n) (eq→eqb e)
   where
@@ -92,7 +90,8 @@ pub inexact : (n s w : ℕ) → IsRoot n s → (s * s ≡ n → ⊥) → w ≡ s
 inexact n s w h e d = record { whole = s; is = h; marked = d ∙ ap (λ (y : ℕ). y + 1) (mul-comm s 2) ∙ ap (λ (y : ℕ). 2 * s + y) (sym (sticky-some (s * s) n e)) }
 
 -- ---- `mark`
-module _ (s have want : ℕ) (C : Close s have want) where
+
+module _ {s have want : ℕ} (C : Close s have want) where
   one-less : s - 1 + 1 ≡ s
   one-less = omega (arith, C .some)
 
