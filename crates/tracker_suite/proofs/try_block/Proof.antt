@@ -1,0 +1,47 @@
+-- `tracker_suite::try_block` is safe and ends.
+use Prim.Native.Nat.{_+_, _*_, _≤_}
+use lib.ListN.{length}
+use borrow.Author.Needs.{needs}
+use Rattle.tracker_suite.proofs.try_block.Statement.{statement}
+use Rattle.tracker_suite.proofs.try_block.Tie as tie
+
+abbrev Inv-loop : tie.InvT-loop
+Inv-loop block run₀ left₀ at₀ run left at = at + left * 64 ≤ length block
+
+abbrev μ-loop : tie.MeasureT-loop
+μ-loop block run₀ left₀ at₀ run left at = left
+
+loop-holds : tie.Need-loop-holds Inv-loop μ-loop
+loop-holds c = search needs
+
+sub-left : tie.Need-sub-left Inv-loop μ-loop
+sub-left c = search needs
+
+try-call-requires : tie.Need-try-call-requires Inv-loop μ-loop
+try-call-requires c κs = search needs
+
+add-at : tie.Need-add-at Inv-loop μ-loop
+add-at c = search needs
+
+loop-less : tie.Need-loop-less Inv-loop μ-loop
+loop-less c = search needs
+
+loop-again : tie.Need-loop-again Inv-loop μ-loop
+loop-again c = search needs
+
+returns : tie.Need-returns Inv-loop μ-loop
+returns c = search needs
+
+pub try-block-spec : {M : Type 1} → statement M
+try-block-spec =
+    tie.close
+    (tie.spec
+    Inv-loop
+    μ-loop
+    loop-holds
+    sub-left
+    try-call-requires
+    add-at
+    loop-less
+    loop-again
+    returns)
