@@ -11,6 +11,7 @@ use lib.Dec.{ltb}
 use lib.ListN.{length, drop, getD}
 use lib.Seq.{drop-cons}
 use borrow.Author.Tests.{lt-ltb, le-ltb, le-leb, lt-leb, ltb-true}
+use Rattle.answers.proofs.Passed.{both-true, within-most}
 use Rattle.answers.specs.Pick.{pick, pick-true, pick-false}
 use Rattle.answers.specs.Numbers.{limit, within, allowedRate, allowedCeiling}
 use Rattle.lines.specs.Text.{digits, decimal}
@@ -26,7 +27,6 @@ use Rattle.lines.specs.declared.Verdict.the-variants.{Hold, Move, Reacqu
 use Rattle.lines.specs.declared.Trigger.{Trigger}
 use Rattle.lines.specs.declared.Trigger.the-variants.{Edge, Lost, Jump, Seam}
 use Rattle.lines.proofs.Laws.{digits-step}
-use Rattle.lines.proofs.Ranges.{both-true, within-below}
 
 pub see-next : (s s' : Seen) (i : ℕ) (text : List ℕ) → i < length text → s' ≡ afterByte s (getD text i 0) → foldl afterByte s' (drop (i + 1) text) ≡ foldl afterByte s (drop i text)
 see-next s s' i text h e = rw (drop-cons text i 0, add-one, e)
@@ -121,15 +121,15 @@ pub line-back : (l : Line) → inRange l ≡ true → guessed (seenIn (textOf l)
 unfolding seenIn guessed pick textOf inRange
 line-back (Replay r c) e =
     let f = both-true (allowedRate r) (allowedCeiling c) e in
-    let x = within-below 8000 192000 r (2 ^ 32) (omega arith) (f .0) in
-    let y = within-below 1 4000 c (2 ^ 32) (omega arith) (f .1) in
+    let x : r < 2 ^ 32 = omega (arith, within-most 8000 192000 r (f .0)) in
+    let y : c < 2 ^ 32 = omega (arith, within-most 1 4000 c (f .1)) in
     simp (foldl-append, see-32 r x, see-32 c y, low-32 r x, low-32 c y)
 line-back (Frame n w) e = let f = both-true (bits 64 n) (wordInRange w) e in word-back n w (ltb-true n (2 ^ 64) (f .0)) (f .1)
 line-back (Cycle n v) e = let f = both-true (bits 64 n) (verdictInRange v) e in verdict-back n v (ltb-true n (2 ^ 64) (f .0)) (f .1)
 line-back (Refused i r) e =
     let f = both-true (bits 32 i) (within 1 7 r) e in
     let x = ltb-true i (2 ^ 32) (f .0) in
-    let y = within-below 1 7 r (2 ^ 8) (omega arith) (f .1) in
+    let y : r < 2 ^ 8 = omega (arith, within-most 1 7 r (f .1)) in
     simp (foldl-append, see-32 i x, see-32 r (omega arith), low-32 i x, low-8 r y)
 line-back (End n m) e =
     let f = both-true (bits 64 n) (bits 64 m) e in

@@ -1,11 +1,9 @@
--- Tests of ranges: of a number that fits its width anyway, and what a test passed says.
+-- The test of a number that fits its width anyway.
 use mathlib.Core.Path.{_≡_, refl, sym}
-use mathlib.Core.Bool.{Bool, true, false, false≢true}
+use mathlib.Core.Bool.{Bool, true, false}
 use Prim.Native.Nat.{ℕ, _^_, _<_}
-use native.Mathlib.Omega.{arith}
-use borrow.Author.Tests.{lt-ltb, leb-true}
+use borrow.Author.Tests.{lt-ltb}
 use Rattle.answers.specs.Pick.{pick, both, pick-true}
-use Rattle.answers.specs.Numbers.{within}
 use Rattle.lines.specs.Lines.{bits}
 
 pub bits-first : (wide n : ℕ) (b : Bool) → n < 2 ^ wide → b ≡ both (bits wide n) b
@@ -15,11 +13,3 @@ pub bits-last : (wide n : ℕ) (a : Bool) → n < 2 ^ wide → a ≡ both a (bit
 unfolding pick
 bits-last wide n true h = sym (lt-ltb n (2 ^ wide) h)
 bits-last wide n false h = refl
-
-pub both-true : (a b : Bool) → both a b ≡ true → (a ≡ true) × (b ≡ true)
-unfolding pick
-both-true true b e = (refl, e)
-both-true false b e = absurd (false≢true e)
-
-pub within-below : (lo hi n bound : ℕ) → hi < bound → within lo hi n ≡ true → n < bound
-within-below lo hi n bound h e = omega (arith, leb-true n hi (both-true _ _ e .1))

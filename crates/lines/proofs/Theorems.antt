@@ -8,6 +8,7 @@ use lib.Dec.{ltb, leb}
 use lib.ListN.{length, take, getD}
 use lib.Seq.{take-append-seam}
 use borrow.Author.Tests.{le-leb, leb-true}
+use Rattle.answers.proofs.Passed.{both-true}
 use Rattle.answers.specs.Pick.{pick, both, pick-true, pick-all}
 use Rattle.lines.specs.Text.{ascii, digits, decimal}
 use Rattle.lines.specs.Lines.{textOf, wordText, verdictText, triggerText, inRange}
@@ -23,7 +24,6 @@ use Rattle.lines.specs.declared.Trigger.the-variants.{Edge, Lost, Jump, 
 use Rattle.lines.specs.declared.Read.{Read}
 use Rattle.lines.specs.declared.Read.the-variants.{Known}
 use Rattle.lines.specs.Steps.{seenIn, guessed}
-use Rattle.lines.proofs.Ranges.{both-true}
 use Rattle.lines.proofs.Guesses.{line-back}
 
 -- ---- reading what was written gives the line back

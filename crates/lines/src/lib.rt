@@ -237,12 +237,12 @@ pub fn write_line(line: Line, out: &mut [u8]) -> Written
 
 // What a text shows to the eye that guesses its line: the sum of the bytes that are no digits, its last three numbers, and whether it ends
 // inside the third.
-pub struct Seen {
-    pub shape: u64,
-    pub a: u64,
-    pub b: u64,
-    pub c: u64,
-    pub inside: bool,
+struct Seen {
+    shape: u64,
+    a: u64,
+    b: u64,
+    c: u64,
+    inside: bool,
 }
 
 fn shift(v: u64, d: u64) -> u64

@@ -11,6 +11,8 @@ use Rattle.recording.proofs.event_at.Kinds as event-kinds
 use Rattle.recording.proofs.event_at.Reads as event-reads
 use Rattle.recording.proofs.admit.Kinds as admit-kinds
 use Rattle.recording.proofs.admit.Reads as admit-reads
+use Rattle.recording.proofs.all_used.Kinds as all-used-kinds
+use Rattle.recording.proofs.all_used.Reads as all-used-reads
 use Rattle.recording.proofs.samples.Kinds as samples-kinds
 use Rattle.recording.proofs.samples.Reads as samples-reads
 use Rattle.recording.proofs.sample.Kinds as sample-kinds
@@ -26,6 +28,9 @@ event-at-once κs a v w x y p q = once p q
 
 pub admit-once : Determined 0 admit-kinds.ps admit-kinds.r admit-reads.Post
 admit-once κs a v w x y p q = once p q
+
+pub all-used-once : Determined 0 all-used-kinds.ps all-used-kinds.r all-used-reads.Post
+all-used-once κs a v w x y p q = once p q
 
 -- the part that is handed back holds the same samples
 pub samples-once : (κs : Lfts 1) (a : Dens κs samples-kinds.ps) (v w : resT samples-kinds.r κs .Denot) (x y : AtExit (endedOf 1 samples-kinds.ps samples-kinds.r) κs)

@@ -1,6 +1,6 @@
 -- Laws of little-endian numbers and of samples.
 use mathlib.Core.Path.{_≡_, refl, sym, ap, _∙_}
-use mathlib.Core.Bool.{Bool, true, false, not, false≢true}
+use mathlib.Core.Bool.{true, false, not, false≢true}
 use mathlib.Core.List.{List}
 use Prim.Native.Nat.{ℕ, suc, _+_, _*_, _%_, _/_, _<_, _≤_, min}
 use native.Mathlib.Numerals.{add-one}
@@ -11,7 +11,7 @@ use lib.Seq.{drop-cons, drop-drop, take-suc-set, drop-set-lt}
 use lib.Ieee.{Float, nan, inf, fin, binary32, ofBits, nanBits, isNan}
 use lib.Ieee.Bits.{nanBits-is, nanBits-above}
 use borrow.Author.Tests.{lt-ltb, le-ltb, leb-true}
-use Rattle.answers.specs.Pick.{pick, both}
+use Rattle.answers.proofs.Passed.{both-true}
 use Rattle.recording.specs.Bytes.{numberAt}
 use Rattle.recording.specs.Samples.{samplesIn, sampleAt, decodedCount, decoded, supplied}
 
@@ -71,11 +71,6 @@ decode-all s out out₀ n i m a b t d =
     (m, sym (take-append-drop i out) ∙ rw (t, d, e))
 
 -- ---- totals
-
-pub both-true : (a b : Bool) → both a b ≡ true → (a ≡ true) × (b ≡ true)
-unfolding pick
-both-true true b e = (refl, e)
-both-true false b e = absurd (false≢true e)
 
 pub supplied-most : (samples total length : ℕ) → supplied samples total length ≡ true → samples ≤ total
 supplied-most samples total length e = leb-true samples total (both-true _ _ e .0)

@@ -8,7 +8,8 @@ use native.Mathlib.Omega.{arith}
 use lib.Dec.{ltb}
 use lib.ListN.{length, drop, length-append, length-drop}
 use lib.Seq.{take-append-le, drop-append-le, drop-append-add}
-use borrow.Author.Tests.{le-leb, leb-true, ltb-true}
+use borrow.Author.Tests.{le-leb, ltb-true}
+use Rattle.answers.proofs.Passed.{both-true, within-most}
 use Rattle.answers.specs.Pick.{pick}
 use Rattle.answers.specs.Numbers.{allowedRate, allowedCeiling}
 use Rattle.recording.specs.Bytes.{number, numberAt, bytes}
@@ -19,7 +20,6 @@ use Rattle.recording.specs.declared.Start.the-variants.{Opened}
 use Rattle.recording.specs.declared.Event.{Event}
 use Rattle.recording.specs.declared.Event.the-variants.{Far, Near, Rearm, DiscardNear, Unconfident, Interior, Edge, Discontinuity}
 use Rattle.recording.specs.declared.Entry.the-variants.{Good, Bad}
-use Rattle.recording.proofs.Laws.{both-true}
 
 -- ---- numbers
 
@@ -72,7 +72,7 @@ header-within s rest h =
 -- ---- events
 
 few : (count : ℕ) → someSamples count ≡ true → count < 2 ^ 32
-few count e = omega (arith, leb-true count 4096 (both-true _ _ e .1))
+few count e = omega (arith, within-most 1 4096 count e)
 
 pub event-back : (e : Event) (rest : List ℕ) → allowed e ≡ true → eventAt (eventBytes e ++ rest) 0 ≡ Good e
 unfolding eventAt eventOf numberAt pick

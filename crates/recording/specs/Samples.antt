@@ -51,7 +51,7 @@ samplesOf far near (Interior alignment delay) f n = []
 samplesOf far near (Edge alignment delay) f n = []
 samplesOf far near Discontinuity f n = []
 
--- ---- whether there are samples for an event
+-- ---- whether there are samples for an event, and events for the samples
 
 -- so many samples of an input are within the header's total, and their bytes are there
 abbrev pub supplied : ℕ → ℕ → ℕ → Bool
@@ -72,3 +72,7 @@ admitted h l u Unconfident = Enough u
 admitted h l u (Interior alignment delay) = Enough u
 admitted h l u (Edge alignment delay) = Enough u
 admitted h l u Discontinuity = Enough u
+
+-- the events use no fewer samples than the totals
+unfoldable pub allUsed : Header → Used → Bool
+allUsed h u = both (leb (h .far) (u .far)) (leb (h .near) (u .near))

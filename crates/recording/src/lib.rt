@@ -8,7 +8,7 @@ ghost use Rattle.recording.specs.Recording;
 ghost use Rattle.answers.specs.Pick.{both};
 ghost use Rattle.recording.specs.Recording.{opened, someSamples, onlyIf, eventOf, eventAt};
 ghost use Rattle.recording.specs.Samples;
-ghost use Rattle.recording.specs.Samples.{samplesOf, decoded, decodedCount, admitted};
+ghost use Rattle.recording.specs.Samples.{samplesOf, decoded, decodedCount, admitted, allUsed};
 
 // far and near are totals of samples.
 pub struct Header {
@@ -55,6 +55,12 @@ pub struct Lengths {
 pub enum Admission {
     Enough(Used),
     Lacking,
+}
+
+fn wide(x: u32) -> u64
+    ensures { λ r. ⌜ r ≡ x ⌝ }
+{
+    x as u64
 }
 
 fn byte(s: &[u8], at: usize) -> u64
@@ -244,6 +250,16 @@ pub fn admit(header: Header, lengths: Lengths, used: Used, event: Event) -> Admi
         } => Admission::Enough(used),
         Event::Discontinuity => Admission::Enough(used),
     }
+}
+
+// Whether the events have used every sample that the header announces. Where they have not, the log says `bad totals`.
+pub fn all_used(header: Header, used: Used) -> bool
+    ensures { λ r. ⌜ r ≡ allUsed header used ⌝ }
+{
+    if used.far < wide(header.far) {
+        return false;
+    }
+    wide(header.near) <= used.near
 }
 
 fn part(piece: &[f32], at: usize, count: u32) -> &[f32]
