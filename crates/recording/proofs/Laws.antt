@@ -1,6 +1,6 @@
 -- Laws of little-endian numbers and of samples.
 use mathlib.Core.Path.{_≡_, refl, sym, ap, _∙_}
-use mathlib.Core.Bool.{true, false, not, false≢true}
+use mathlib.Core.Bool.{Bool, true, false, not, false≢true}
 use mathlib.Core.List.{List}
 use Prim.Native.Nat.{ℕ, suc, _+_, _*_, _%_, _/_, _<_, _≤_, min}
 use native.Mathlib.Numerals.{add-one}
@@ -72,5 +72,5 @@ decode-all s out out₀ n i m a b t d =
 
 -- ---- totals
 
-pub supplied-most : (samples total length : ℕ) → supplied samples total length ≡ true → samples ≤ total
-supplied-most samples total length e = leb-true samples total (both-true _ _ e .0)
+pub supplied-most : (samples total length : ℕ) (test : Bool) → test ≡ supplied samples total length → test ≡ true → samples ≤ total
+supplied-most samples total length test e passed = leb-true samples total (both-true _ _ (sym e ∙ passed) .0)

@@ -1,25 +1,26 @@
 -- The promises of recordings: what was written is read back, and nothing past what is announced is read.
-use mathlib.Core.Path.{_≡_, refl, ap, _∙_}
+use mathlib.Core.Path.{_≡_, refl, sym, ap, _∙_}
 use mathlib.Core.Bool.{true}
 use mathlib.Core.List.{List, _++_}
 use Prim.Native.Nat.{ℕ, zero, suc, _+_, _*_, _/_, _^_, _<_, _≤_}
 use native.Mathlib.Nat.{div-lt-iff-lt-mul, pow-succ'}
 use native.Mathlib.Omega.{arith}
-use lib.Dec.{ltb}
+use lib.Dec.{ltb, eqb}
 use lib.ListN.{length, drop, length-append, length-drop}
 use lib.Seq.{take-append-le, drop-append-le, drop-append-add}
-use borrow.Author.Tests.{le-leb, ltb-true}
+use borrow.Author.Tests.{le-leb, ltb-true, eqb-true}
 use Rattle.answers.proofs.Passed.{both-true, within-most}
-use Rattle.answers.specs.Pick.{pick}
+use Rattle.answers.specs.Pick.{pick, both, pick-case}
 use Rattle.answers.specs.Numbers.{allowedRate, allowedCeiling}
 use Rattle.recording.specs.Bytes.{number, numberAt, bytes}
-use Rattle.recording.specs.Recording.{opened, headerBytes, someSamples, eventOf, eventAt, allowed, eventBytes}
+use Rattle.recording.specs.Recording.{opened, headerBytes, someSamples, unused, onlyIf, eventOf, eventAt, kindOf, countOf, numberOf, allowed, eventBytes}
 use Rattle.recording.specs.Samples.{samplesIn}
 use Rattle.recording.specs.declared.Header.{Header}
 use Rattle.recording.specs.declared.Start.the-variants.{Opened}
 use Rattle.recording.specs.declared.Event.{Event}
 use Rattle.recording.specs.declared.Event.the-variants.{Far, Near, Rearm, DiscardNear, Unconfident, Interior, Edge, Discontinuity}
 use Rattle.recording.specs.declared.Entry.the-variants.{Good, Bad}
+use Rattle.recording.specs.declared.Entry.{Entry}
 
 -- ---- numbers
 
@@ -121,6 +122,47 @@ event-within s rest at h =
       number-within 4 s rest (at + 4) (omega arith),
       number-within 8 s rest (at + 8) (omega arith),
     )
+
+-- ---- reading loses nothing: a good event's three fields are the numbers that were read
+
+abbrev Said : ℕ → ℕ → ℕ → Entry → Type 0
+Said kind count number entry = (e : Event) → entry ≡ Good e → (kindOf e ≡ kind) × (countOf e ≡ count) × (numberOf e ≡ number)
+
+bad-says : (kind count number : ℕ) → Said kind count number Bad
+bad-says kind count number e q = absurd (let z : _≡_ {A = ℕ} 0 1 = cc in omega arith)
+
+good-says : (e : Event) (kind count number : ℕ) → kindOf e ≡ kind → countOf e ≡ count → numberOf e ≡ number → Said kind count number (Good e)
+good-says e kind count number k c n e' q =
+    let same : e ≡ e' = cc in
+    (ap kindOf (sym same) ∙ k, ap countOf (sym same) ∙ c, ap numberOf (sym same) ∙ n)
+
+-- an event that uses neither field
+plain-says : (e : Event) (k : ℕ) → kindOf e ≡ k → countOf e ≡ 0 → numberOf e ≡ 0 → (kind count number : ℕ) → eqb kind k ≡ true →
+    Said kind count number (onlyIf (both (unused count) (unused number)) e)
+plain-says e k ke ce ne kind count number t =
+    pick-case (Said kind count number) (both (unused count) (unused number)) (Good e) Bad
+    (λ b. let f = both-true _ _ b in good-says e kind count number (ke ∙ sym (eqb-true kind k t)) (ce ∙ sym (eqb-true count 0 (f .0))) (ne ∙ sym (eqb-true number 0 (f .1))))
+    (λ b. bad-says kind count number)
+
+pub fields-read : (kind count number : ℕ) → Said kind count number (eventOf kind count number)
+unfolding eventOf
+fields-read kind count number =
+    pick-case S (eqb kind 1) _ _ (λ t.
+    pick-case S (both (someSamples count) (unused number)) _ _ (λ b. good-says (Far count) kind count number (sym (eqb-true kind 1 t)) refl (sym (eqb-true number 0 (both-true _ _ b .1)))) (λ b. bad)) λ _.
+    pick-case S (eqb kind 2) _ _ (λ t.
+    pick-case S (someSamples count) _ _ (λ b. good-says (Near count number) kind count number (sym (eqb-true kind 2 t)) refl refl) (λ b. bad)) λ _.
+    pick-case S (eqb kind 3) _ _ (plain-says Rearm 3 refl refl refl kind count number) λ _.
+    pick-case S (eqb kind 4) _ _ (plain-says DiscardNear 4 refl refl refl kind count number) λ _.
+    pick-case S (eqb kind 5) _ _ (plain-says Unconfident 5 refl refl refl kind count number) λ _.
+    pick-case S (eqb kind 6) _ _ (λ t. good-says (Interior count number) kind count number (sym (eqb-true kind 6 t)) refl refl) λ _.
+    pick-case S (eqb kind 7) _ _ (λ t. good-says (Edge count number) kind count number (sym (eqb-true kind 7 t)) refl refl) λ _.
+    pick-case S (eqb kind 8) _ _ (plain-says Discontinuity 8 refl refl refl kind count number) λ _. bad
+  where
+    S : Entry → Type 0
+    S = Said kind count number
+
+    bad : S Bad
+    bad = bad-says kind count number
 
 -- ---- samples
 

@@ -128,12 +128,14 @@ fn unused(count: u32, number: u64) -> bool
     number == 0
 }
 
+// Samples in one event.
 fn some_samples(count: u32) -> bool
     ensures { λ r. ⌜ r ≡ someSamples count ⌝ }
 {
     answers::within(1, 4096, count)
 }
 
+// Kind 1 leaves the number unused.
 fn far_event(count: u32, number: u64) -> Entry
     ensures { λ r. ⌜ r ≡ onlyIf (both (someSamples count) (Recording.unused number)) (Event.Far count) ⌝ }
 {
@@ -146,6 +148,7 @@ fn far_event(count: u32, number: u64) -> Entry
     Entry::Good(Event::Far { count })
 }
 
+// Kinds 3, 4, 5 and 8 leave both fields unused.
 fn plain_event(count: u32, number: u64, event: Event) -> Entry
     ensures { λ r. ⌜ r ≡ onlyIf (both (Recording.unused count) (Recording.unused number)) event ⌝ }
 {

@@ -21,7 +21,7 @@ cast-t10 c = search needs
 add-t11 : tie.Need-add-t11
 add-t11 c =
     let a = c .before .before .before .before .before .before .args in
-    omega (arith, supplied-most (a .used .far + c .before .before .before .before .event .given .0 .0) (a .header .far) (a .lengths .far) (sym (c .before .before .supplied .ensures) ∙ c .before .if1 .taken))
+    omega (arith, supplied-most (a .used .far + c .before .before .before .before .event .given .0 .0) (a .header .far) (a .lengths .far) _ (c .before .before .supplied .ensures) (c .before .if1 .taken))
 
 enum-known-event-2 : tie.Need-enum-known-event-2
 enum-known-event-2 c = search needs
@@ -35,7 +35,7 @@ cast-t15 c = search needs
 add-t16 : tie.Need-add-t16
 add-t16 c =
     let a = c .before .before .before .before .before .before .args in
-    omega (arith, supplied-most (a .used .near + c .before .before .before .before .event2 .given .0 .0) (a .header .near) (a .lengths .near) (sym (c .before .before .supplied2 .ensures) ∙ c .before .if2 .taken))
+    omega (arith, supplied-most (a .used .near + c .before .before .before .before .event2 .given .0 .0) (a .header .near) (a .lengths .near) _ (c .before .before .supplied2 .ensures) (c .before .if2 .taken))
 
 enum-told : tie.Need-enum-told
 enum-told c = search needs
