@@ -5,7 +5,7 @@ use mathlib.Core.List.{List, _++_}
 use Prim.Native.Nat.{ℕ, zero, suc, _+_, _*_, _/_, _^_, _<_, _≤_}
 use native.Mathlib.Nat.{div-lt-iff-lt-mul, pow-succ'}
 use native.Mathlib.Omega.{arith}
-use lib.Dec.{ltb, eqb}
+use lib.Dec.{ltb, leb, eqb}
 use lib.ListN.{length, drop, length-append, length-drop}
 use lib.Seq.{take-append-le, drop-append-le, drop-append-add}
 use borrow.Author.Tests.{le-leb, ltb-true, eqb-true}
@@ -40,13 +40,13 @@ number-within n s rest at h =
 -- ---- the header
 
 pub header-back : (h : Header) (rest : List ℕ) → allowedRate (h .rate) ≡ true → allowedCeiling (h .ceiling) ≡ true →
-    h .rate < 2 ^ 32 → h .ceiling < 2 ^ 32 → h .events < 2 ^ 32 → h .far < 2 ^ 32 → h .near < 2 ^ 32 → opened (headerBytes h ++ rest) ≡ Opened h
+    h .events < 2 ^ 32 → h .far < 2 ^ 32 → h .near < 2 ^ 32 → opened (headerBytes h ++ rest) ≡ Opened h
 unfolding opened numberAt pick
-header-back h rest r c a b d e f =
+header-back h rest r c d e f =
     rw (
       le-leb 24 (length (headerBytes h ++ rest)) (omega arith),
-      number-back 4 (h .rate) a,
-      number-back 4 (h .ceiling) b,
+      number-back 4 (h .rate) (omega (arith, within-most 8000 192000 (h .rate) r)),
+      number-back 4 (h .ceiling) (omega (arith, within-most 1 4000 (h .ceiling) c)),
       number-back 4 (h .events) d,
       number-back 4 (h .far) e,
       number-back 4 (h .near) f,
@@ -75,23 +75,26 @@ header-within s rest h =
 few : (count : ℕ) → someSamples count ≡ true → count < 2 ^ 32
 few count e = omega (arith, within-most 1 4096 count e)
 
+sixteen : (e : Event) (rest : List ℕ) → leb (0 + 16) (length (eventBytes e ++ rest)) ≡ true
+sixteen e rest = le-leb (0 + 16) (length (eventBytes e ++ rest)) (omega arith)
+
 pub event-back : (e : Event) (rest : List ℕ) → allowed e ≡ true → eventAt (eventBytes e ++ rest) 0 ≡ Good e
 unfolding eventAt eventOf numberAt pick
 event-back (Far count) rest h =
-    rw (le-leb (0 + 16) (length (eventBytes (Far count) ++ rest)) (omega arith), number-back 4 count (few count h), h)
+    rw (sixteen (Far count) rest, number-back 4 count (few count h), h)
 event-back (Near count first) rest h =
     let f = both-true (someSamples count) (ltb first (2 ^ 64)) h in
-    rw (le-leb (0 + 16) (length (eventBytes (Near count first) ++ rest)) (omega arith), number-back 4 count (few count (f .0)), number-back 8 first (ltb-true first (2 ^ 64) (f .1)), f .0)
-event-back Rearm rest h = rw (le-leb (0 + 16) (length (eventBytes Rearm ++ rest)) (omega arith))
-event-back DiscardNear rest h = rw (le-leb (0 + 16) (length (eventBytes DiscardNear ++ rest)) (omega arith))
-event-back Unconfident rest h = rw (le-leb (0 + 16) (length (eventBytes Unconfident ++ rest)) (omega arith))
+    rw (sixteen (Near count first) rest, number-back 4 count (few count (f .0)), number-back 8 first (ltb-true first (2 ^ 64) (f .1)), f .0)
+event-back Rearm rest h = rw (sixteen Rearm rest)
+event-back DiscardNear rest h = rw (sixteen DiscardNear rest)
+event-back Unconfident rest h = rw (sixteen Unconfident rest)
 event-back (Interior alignment delay) rest h =
     let f = both-true (ltb alignment (2 ^ 32)) (ltb delay (2 ^ 64)) h in
-    rw (le-leb (0 + 16) (length (eventBytes (Interior alignment delay) ++ rest)) (omega arith), number-back 4 alignment (ltb-true alignment (2 ^ 32) (f .0)), number-back 8 delay (ltb-true delay (2 ^ 64) (f .1)))
+    rw (sixteen (Interior alignment delay) rest, number-back 4 alignment (ltb-true alignment (2 ^ 32) (f .0)), number-back 8 delay (ltb-true delay (2 ^ 64) (f .1)))
 event-back (Edge alignment delay) rest h =
     let f = both-true (ltb alignment (2 ^ 32)) (ltb delay (2 ^ 64)) h in
-    rw (le-leb (0 + 16) (length (eventBytes (Edge alignment delay) ++ rest)) (omega arith), number-back 4 alignment (ltb-true alignment (2 ^ 32) (f .0)), number-back 8 delay (ltb-true delay (2 ^ 64) (f .1)))
-event-back Discontinuity rest h = rw (le-leb (0 + 16) (length (eventBytes Discontinuity ++ rest)) (omega arith))
+    rw (sixteen (Edge alignment delay) rest, number-back 4 alignment (ltb-true alignment (2 ^ 32) (f .0)), number-back 8 delay (ltb-true delay (2 ^ 64) (f .1)))
+event-back Discontinuity rest h = rw (sixteen Discontinuity rest)
 
 number-after : (n : ℕ) (earlier s : List ℕ) (at : ℕ) → numberAt n (earlier ++ s) (length earlier + at) ≡ numberAt n s at
 unfolding numberAt
