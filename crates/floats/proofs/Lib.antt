@@ -11,3 +11,5 @@ pub mod Rows
 pub mod Laws
 pub mod Finite
 pub mod Levels
+pub mod Determined
+pub mod Distance

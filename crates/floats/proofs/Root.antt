@@ -71,7 +71,7 @@ unfolding wholeRoot
 whole-is n = isqrt-is (size n) n (lt-of-lt-of-le (size-lt n) (pow-le (size n)))
 
 -- ---- r whole halves, and a half of one more where the root is not r, compare with each h as the root does
-square-lt : (a b : ℕ) → a < b → a * a < b * b
+pub square-lt : (a b : ℕ) → a < b → a * a < b * b
 square-lt a b h = lt-of-le-of-lt (mul-le-mul-left a (le-of-lt h)) (mul-lt-mul-of-pos-right h (lt-of-le-of-lt (zero-le a) h))
   where
     zero-le : (a : ℕ) → 0 ≤ a
