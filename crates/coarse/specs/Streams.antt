@@ -55,14 +55,14 @@ heard slack w (foreign v c ∷ items) = heard slack w items
 
 -- ---- what a stream keeps to
 
--- far samples are of the type f32
+-- samples are of the type f32
 abbrev pub AllF32 : List Float → Type 0
 AllF32 [] = Unit {0}
 AllF32 (x ∷ xs) = T (fits binary32 x) × AllF32 xs
 
 -- no reset is accepted
 abbrev pub FairDeed : ℕ → World → Deed → Type 0
-FairDeed slack w (near x index) = Unit {0}
+FairDeed slack w (near x index) = T (fits binary32 x)
 FairDeed slack w score = Unit {0}
 FairDeed slack w rearm = Unit {0}
 FairDeed slack w discard = Unit {0}

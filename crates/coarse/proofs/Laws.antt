@@ -1,0 +1,146 @@
+-- Laws of choices, tests, lists, tables and remainders.
+use Prim.Native.Nat.{ℕ, zero, suc, _+_, _-_, _*_, _/_, _%_, _≤_, _<_, min}
+use mathlib.Core.Path.{_≡_, refl, sym, ap, _∙_, subst}
+use mathlib.Core.Logic.{_≢_}
+use mathlib.Core.List.{List, [], _∷_, _++_}
+use mathlib.Core.Bool.{Bool, true, false, not, true≢false, false≢true}
+use native.Mathlib.Nat.{div-add-mod', lt-of-mul-lt-mul-right, mul-le-mul-right, add-mul, one-mul}
+use native.Mathlib.Numerals.{add-one}
+use native.Mathlib.Omega.{arith}
+use lib.Dec.{T, eqb}
+use lib.ListN.{length, set, getD, take, drop, length-append, length-take, length-drop}
+use lib.Seq.{getD-set-other}
+use lib.Ieee.{Float, nan}
+use lib.Ieee.Scale.{finite}
+use borrow.Author.Tests.{eqb-true, eqb-false}
+use Rattle.answers.specs.Pick.{pick, both, either, pick-true, pick-false, pick-case}
+use Rattle.answers.specs.Refusals.{unless}
+use Rattle.floats.specs.Functions.{zero64}
+use Rattle.folds.specs.Sums.{table, zeros, at, allFinite}
+
+-- ---- choices
+
+-- two answers by one test
+pub pick-both : {A B : Type 0} (P : A → B → Type 0) (t : Bool) (x y : A) (x' y' : B) → (t ≡ true → P x x') → (t ≡ false → P y y') → P (pick t x y) (pick t x' y')
+unfolding pick
+pick-both P true x y x' y' f g = f refl
+pick-both P false x y x' y' f g = g refl
+
+-- a call that is refused, or not
+pub unless-case : {A : Type 0} (P : A → Type 0) (n : ℕ) (x y : A) → P x → (n ≡ 0 → P y) → P (unless n x y)
+unless-case P n x y p q = pick-case P (eqb n 0) y x (λ t. q (eqb-true n 0 t)) (λ t. p)
+
+-- the same call on two states
+pub unless-both : {A B : Type 0} (P : A → B → Type 0) (n : ℕ) (x y : A) (x' y' : B) → P x x' → (n ≡ 0 → P y y') → P (unless n x y) (unless n x' y')
+unless-both P n x y x' y' p q = pick-both P (eqb n 0) y x y' x' (λ t. q (eqb-true n 0 t)) (λ t. p)
+
+-- ---- tests
+
+pub is-true : (t : Bool) → T t → t ≡ true
+is-true true h = refl
+is-true false h = absurd h
+
+pub holds : (t : Bool) → t ≡ true → T t
+holds true h = tt
+holds false h = absurd (false≢true h)
+
+pub either-or : (a b : Bool) → (a ≡ false → b ≡ true) → either a b ≡ true
+unfolding pick
+either-or true b h = refl
+either-or false b h = h refl
+
+pub both-and : (a b : Bool) → a ≡ true → b ≡ true → both a b ≡ true
+unfolding pick
+both-and true b h k = k
+both-and false b h k = h
+
+pub both-left : (a b : Bool) → both a b ≡ true → a ≡ true
+unfolding pick
+both-left true b h = refl
+both-left false b h = h
+
+pub both-right : (a b : Bool) → both a b ≡ true → b ≡ true
+unfolding pick
+both-right true b h = h
+both-right false b h = absurd (false≢true h)
+
+-- ---- remainders: two numbers less than l apart stand at different places
+pub other-slot : (j n l : ℕ) → j < n → n < j + l → j % l ≢ n % l
+other-slot j n l h k e =
+    let a : j / l * l + j % l ≡ j = div-add-mod' j l in
+    let b : n / l * l + j % l ≡ n = ap (λ (z : ℕ). n / l * l + z) e ∙ div-add-mod' n l in
+    let c : j / l < n / l = lt-of-mul-lt-mul-right l (omega arith) in
+    let d : (j / l + 1) * l ≤ n / l * l = mul-le-mul-right l (omega arith) in
+    let f : (j / l + 1) * l ≡ j / l * l + l = add-mul (j / l) 1 l ∙ ap (λ (z : ℕ). j / l * l + z) (one-mul l) in
+    omega arith
+
+-- ---- lists
+
+-- the same value stored at the same place of two lists of one length
+pub stored-alike : (a b : List Float) (i : ℕ) (x : Float) → length a ≡ length b → at (set a i x) i ≡ at (set b i x) i
+stored-alike [] [] i x e = refl
+stored-alike [] (c ∷ b) i x e = absurd (omega arith)
+stored-alike (c ∷ a) [] i x e = absurd (omega arith)
+stored-alike (c ∷ a) (d ∷ b) zero x e = refl
+stored-alike (c ∷ a) (d ∷ b) (suc i) x e = stored-alike a b i x (omega arith)
+
+-- the first n values of two lists that agree below n
+pub take-alike : (a b : List Float) (n : ℕ) → length a ≡ length b → ((i : ℕ) → i < n → at a i ≡ at b i) → take n a ≡ take n b
+take-alike [] [] n e h = refl
+take-alike [] (c ∷ b) n e h = absurd (omega arith)
+take-alike (c ∷ a) [] n e h = absurd (omega arith)
+take-alike (c ∷ a) (d ∷ b) zero e h = refl
+take-alike (c ∷ a) (d ∷ b) (suc n) e h =
+    let p : c ≡ d = h 0 (omega arith) in
+    let q : take n a ≡ take n b = take-alike a b n (omega arith) (λ i l. h (suc i) (omega arith)) in
+    cc
+
+-- ---- tables
+
+pub length-table : (f : ℕ → Float) (n : ℕ) → length (table f n) ≡ n
+unfolding table
+length-table f zero = refl
+length-table f (suc n) = length-append (table f n) (f n ∷ []) ∙ ap (λ (z : ℕ). z + 1) (length-table f n) ∙ add-one n
+
+pub length-zeros : (n : ℕ) → length (zeros n) ≡ n
+unfolding zeros
+length-zeros n = length-table (λ i. zero64) n
+
+pub table-alike : (f g : ℕ → Float) (n : ℕ) → ((i : ℕ) → f i ≡ g i) → table f n ≡ table g n
+unfolding table
+table-alike f g zero h = refl
+table-alike f g (suc n) h = let a : table f n ≡ table g n = table-alike f g n h in let b : f n ≡ g n = h n in cc
+
+-- a table of one value, from the front
+pub table-front : (x : Float) (n : ℕ) → table (λ i. x) (suc n) ≡ x ∷ table (λ i. x) n
+unfolding table
+table-front x zero = refl
+table-front x (suc n) = ap (λ (l : List Float). l ++ (x ∷ [])) (table-front x n)
+
+-- ---- lists of finite values
+
+pub finite-append : (xs ys : List Float) → allFinite (xs ++ ys) ≡ both (allFinite xs) (allFinite ys)
+unfolding allFinite pick
+finite-append [] ys = refl
+finite-append (x ∷ xs) ys = go (finite x) (finite-append xs ys)
+  where
+    go : (t : Bool) → allFinite (xs ++ ys) ≡ both (allFinite xs) (allFinite ys) → both t (allFinite (xs ++ ys)) ≡ both (both t (allFinite xs)) (allFinite ys)
+    go true e = e
+    go false e = refl
+
+pub finite-set : (xs : List Float) (i : ℕ) (x : Float) → allFinite xs ≡ true → finite x ≡ true → allFinite (set xs i x) ≡ true
+unfolding allFinite
+finite-set [] i x h k = h
+finite-set (y ∷ xs) zero x h k = both-and (finite x) (allFinite xs) k (both-right (finite y) (allFinite xs) h)
+finite-set (y ∷ xs) (suc i) x h k = both-and (finite y) (allFinite (set xs i x)) (both-left (finite y) (allFinite xs) h) (finite-set xs i x (both-right (finite y) (allFinite xs) h) k)
+
+pub finite-table : (f : ℕ → Float) (n : ℕ) → ((i : ℕ) → i < n → finite (f i) ≡ true) → allFinite (table f n) ≡ true
+unfolding table allFinite
+finite-table f zero h = refl
+finite-table f (suc n) h =
+    finite-append (table f n) (f n ∷ [])
+    ∙ both-and (allFinite (table f n)) (allFinite (f n ∷ [])) (finite-table f n (λ i l. h i (omega arith))) (both-and (finite (f n)) true (h n (omega arith)) refl)
+
+pub finite-zeros : (n : ℕ) → allFinite (zeros n) ≡ true
+unfolding zeros
+finite-zeros n = finite-table (λ i. zero64) n (λ i l. refl)
