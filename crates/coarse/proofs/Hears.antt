@@ -14,32 +14,32 @@ use lib.Ieee.Scale.{finite}
 use borrow.Author.Tests.{eqb-true, eqb-false}
 use Rattle.answers.specs.Pick.{pick-case}
 use Rattle.floats.specs.Functions.{zero64, magnitude}
-use Rattle.floats.proofs.Levels.{AtMost, at-most-finite, zero-at-most, sample-at-most, add-at-most, level-at-most}
+use Rattle.floats.proofs.Levels.{AtMost, zero-at-most, sample-at-most, add-at-most, level-at-most}
 use Rattle.folds.specs.Sums.{zeros, at, allFinite, table}
 use Rattle.coarse.specs.Bins.{envelopeLen}
 use Rattle.coarse.specs.Blocks.{Heard, hear, hearAll, summed, levelOf}
 use Rattle.coarse.specs.Streams.{AllF32}
 use Rattle.coarse.specs.declared.Geometry.{Geometry}
 use Rattle.coarse.specs.declared.Far.{Far}
-use Rattle.coarse.proofs.Laws.{pick-both, holds, both-left, both-right, other-slot, stored-alike, table-front, finite-set}
+use Rattle.coarse.proofs.Laws.{pick-both, holds, both-left, both-right, other-slot, stored-alike, table-front, All, all-set}
 use Rattle.coarse.proofs.Settings.{Allowed, few, some}
 
 -- ---- one far side
 
--- its numbers stand where the samples accepted put them, the running sum is one of as many magnitudes as the partial block has, every level is finite
+-- its numbers stand where the samples accepted put them, the running sum is one of as many magnitudes as the partial block has, every level is one of an f32
 pub record HeardSound (g : Geometry) (h : Heard) : Type 0 where
   pub placed : h .far .accepted ≡ h .far .next * g .decimation + h .far .count
   pub partial : h .far .count < g .decimation
   pub sum : AtMost (h .far .count) (h .far .sum)
-  pub levels : allFinite (h .envelope) ≡ true
+  pub levels : All (AtMost 1) (h .envelope)
 
 -- a sum of n magnitudes, and one more
 pub summed-at-most : (n : ℕ) (sum x : Float) → n < 192 → AtMost n sum → finite x ≡ true → T (fits binary32 x) → AtMost (n + 1) (summed sum x)
 summed-at-most n sum x l h f t = add-at-most n 1 sum (magnitude x) (omega arith) h (sample-at-most x (holds (finite x) f) t)
 
 -- the level of a block
-pub level-finite : (g : Geometry) → Allowed g → (n : ℕ) (sum : Float) → n ≤ g .decimation → AtMost n sum → finite (levelOf g sum) ≡ true
-level-finite g a n sum l h = at-most-finite 1 (levelOf g sum) (level-at-most n (g .decimation) sum l (some g a) (few g a) h)
+pub block-level : (g : Geometry) → Allowed g → (n : ℕ) (sum : Float) → n ≤ g .decimation → AtMost n sum → AtMost 1 (levelOf g sum)
+block-level g a n sum l h = level-at-most n (g .decimation) sum l (some g a) (few g a) h
 
 module _ (slack : ℕ) (g : Geometry) where
   hear-accepted : (h : Heard) (x : Float) → hear slack g h x .far .accepted ≡ h .far .accepted + 1
@@ -76,7 +76,7 @@ module _ (slack : ℕ) (g : Geometry) where
           placed = omega (arith, s .placed, eqb-true (h .far .count + 1) (g .decimation) e);
           partial = some g a;
           sum = zero-at-most;
-          levels = finite-set (h .envelope) _ (levelOf g (summed (h .far .sum) x)) (s .levels) (level-finite g a (h .far .count + 1) (summed (h .far .sum) x) (omega (arith, s .partial)) sum);
+          levels = all-set (AtMost 1) (h .envelope) _ (levelOf g (summed (h .far .sum) x)) (s .levels) (block-level g a (h .far .count + 1) (summed (h .far .sum) x) (omega (arith, s .partial)) sum);
         })
         (λ e. record { placed = omega (arith, s .placed); partial = omega (arith, s .partial, eqb-false (h .far .count + 1) (g .decimation) e); sum = sum; levels = s .levels })
 

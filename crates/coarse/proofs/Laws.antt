@@ -27,8 +27,8 @@ pick-both P true x y x' y' f g = f refl
 pick-both P false x y x' y' f g = g refl
 
 -- a call that is refused, or not
-pub unless-case : {A : Type 0} (P : A → Type 0) (n : ℕ) (x y : A) → P x → (n ≡ 0 → P y) → P (unless n x y)
-unless-case P n x y p q = pick-case P (eqb n 0) y x (λ t. q (eqb-true n 0 t)) (λ t. p)
+pub unless-case : {A : Type 0} (P : A → Type 0) (n : ℕ) (x y : A) → ((n ≡ 0 → ⊥) → P x) → (n ≡ 0 → P y) → P (unless n x y)
+unless-case P n x y p q = pick-case P (eqb n 0) y x (λ t. q (eqb-true n 0 t)) (λ t. p (eqb-false n 0 t))
 
 -- the same call on two states
 pub unless-both : {A B : Type 0} (P : A → B → Type 0) (n : ℕ) (x y : A) (x' y' : B) → P x x' → (n ≡ 0 → P y y') → P (unless n x y) (unless n x' y')
@@ -117,7 +117,37 @@ unfolding table
 table-front x zero = refl
 table-front x (suc n) = ap (λ (l : List Float). l ++ (x ∷ [])) (table-front x n)
 
+-- ---- what holds of every value of a list
+
+abbrev pub All : (Float → Type 0) → List Float → Type 0
+All P [] = Unit {0}
+All P (x ∷ xs) = P x × All P xs
+
+pub all-append : (P : Float → Type 0) (xs ys : List Float) → All P xs → All P ys → All P (xs ++ ys)
+all-append P [] ys h k = k
+all-append P (x ∷ xs) ys h k = (h .0, all-append P xs ys (h .1) k)
+
+pub all-set : (P : Float → Type 0) (xs : List Float) (i : ℕ) (x : Float) → All P xs → P x → All P (set xs i x)
+all-set P [] i x h k = h
+all-set P (y ∷ xs) zero x h k = (k, h .1)
+all-set P (y ∷ xs) (suc i) x h k = (h .0, all-set P xs i x (h .1) k)
+
+pub all-table : (P : Float → Type 0) (f : ℕ → Float) (n : ℕ) → ((i : ℕ) → i < n → P (f i)) → All P (table f n)
+unfolding table
+all-table P f zero h = tt
+all-table P f (suc n) h = all-append P (table f n) (f n ∷ []) (all-table P f n (λ i l. h i (omega arith))) (h n (omega arith), tt)
+
+pub all-at : (P : Float → Type 0) (xs : List Float) (i : ℕ) → i < length xs → All P xs → P (at xs i)
+all-at P [] i l h = absurd (omega arith)
+all-at P (x ∷ xs) zero l h = h .0
+all-at P (x ∷ xs) (suc i) l h = all-at P xs i (omega arith) (h .1)
+
 -- ---- lists of finite values
+
+pub all-finite : (P : Float → Type 0) (xs : List Float) → ((x : Float) → P x → finite x ≡ true) → All P xs → allFinite xs ≡ true
+unfolding allFinite
+all-finite P [] f h = refl
+all-finite P (x ∷ xs) f h = both-and (finite x) (allFinite xs) (f x (h .0)) (all-finite P xs f (h .1))
 
 pub finite-append : (xs ys : List Float) → allFinite (xs ++ ys) ≡ both (allFinite xs) (allFinite ys)
 unfolding allFinite pick
@@ -127,20 +157,3 @@ finite-append (x ∷ xs) ys = go (finite x) (finite-append xs ys)
     go : (t : Bool) → allFinite (xs ++ ys) ≡ both (allFinite xs) (allFinite ys) → both t (allFinite (xs ++ ys)) ≡ both (both t (allFinite xs)) (allFinite ys)
     go true e = e
     go false e = refl
-
-pub finite-set : (xs : List Float) (i : ℕ) (x : Float) → allFinite xs ≡ true → finite x ≡ true → allFinite (set xs i x) ≡ true
-unfolding allFinite
-finite-set [] i x h k = h
-finite-set (y ∷ xs) zero x h k = both-and (finite x) (allFinite xs) k (both-right (finite y) (allFinite xs) h)
-finite-set (y ∷ xs) (suc i) x h k = both-and (finite y) (allFinite (set xs i x)) (both-left (finite y) (allFinite xs) h) (finite-set xs i x (both-right (finite y) (allFinite xs) h) k)
-
-pub finite-table : (f : ℕ → Float) (n : ℕ) → ((i : ℕ) → i < n → finite (f i) ≡ true) → allFinite (table f n) ≡ true
-unfolding table allFinite
-finite-table f zero h = refl
-finite-table f (suc n) h =
-    finite-append (table f n) (f n ∷ [])
-    ∙ both-and (allFinite (table f n)) (allFinite (f n ∷ [])) (finite-table f n (λ i l. h i (omega arith))) (both-and (finite (f n)) true (h n (omega arith)) refl)
-
-pub finite-zeros : (n : ℕ) → allFinite (zeros n) ≡ true
-unfolding zeros
-finite-zeros n = finite-table (λ i. zero64) n (λ i l. refl)

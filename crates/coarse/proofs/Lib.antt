@@ -1,3 +1,4 @@
 pub mod Laws
 pub mod Settings
 pub mod Hears
+pub mod Sound

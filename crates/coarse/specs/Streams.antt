@@ -45,22 +45,24 @@ answers slack w [] = []
 answers slack w (own c ∷ items) = called slack w c .response ∷ answers slack (called slack w c .world) items
 answers slack w (foreign v c ∷ items) = answers slack w items
 
+-- the far samples that a call brings, if it is accepted
+abbrev pub broughtBy : ℕ → World → Call → List Float
+broughtBy slack w (far xs) = pick (eqb (refusalOf (called slack w (far xs) .response)) none) xs []
+broughtBy slack w (deed d) = []
+
 -- the far samples accepted, in order: sample number 0 is the first since the stream began
 unfoldable pub heard : ℕ → World → List Item → List Float
 heard slack w [] = []
-heard slack w (own (far xs) ∷ items) =
-    pick (eqb (refusalOf (called slack w (far xs) .response)) none) xs [] ++ heard slack (called slack w (far xs) .world) items
-heard slack w (own (deed d) ∷ items) = heard slack (called slack w (deed d) .world) items
+heard slack w (own c ∷ items) = broughtBy slack w c ++ heard slack (called slack w c .world) items
 heard slack w (foreign v c ∷ items) = heard slack w items
 
 -- ---- what a stream keeps to
 
--- samples are of the type f32
 abbrev pub AllF32 : List Float → Type 0
 AllF32 [] = Unit {0}
 AllF32 (x ∷ xs) = T (fits binary32 x) × AllF32 xs
 
--- no reset is accepted
+-- samples are of the type f32, and no reset is accepted
 abbrev pub FairDeed : ℕ → World → Deed → Type 0
 FairDeed slack w (near x index) = T (fits binary32 x)
 FairDeed slack w score = Unit {0}
@@ -69,11 +71,14 @@ FairDeed slack w discard = Unit {0}
 FairDeed slack w reset = refused slack w (deed reset)
 FairDeed slack w (ask r) = Unit {0}
 
+abbrev pub FairCall : ℕ → World → Call → Type 0
+FairCall slack w (far xs) = AllF32 xs
+FairCall slack w (deed d) = FairDeed slack w d
+
 -- a call that was handed anything but the stream's own state and buffers is refused
 abbrev pub Fair : ℕ → World → List Item → Type 0
 Fair slack w [] = Unit {0}
-Fair slack w (own (far xs) ∷ items) = AllF32 xs × Fair slack (called slack w (far xs) .world) items
-Fair slack w (own (deed d) ∷ items) = FairDeed slack w d × Fair slack (called slack w (deed d) .world) items
+Fair slack w (own c ∷ items) = FairCall slack w c × Fair slack (called slack w c .world) items
 Fair slack w (foreign v c ∷ items) = refused slack v c × Fair slack w items
 
 -- the sample begins a frame
