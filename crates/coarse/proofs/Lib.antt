@@ -2,3 +2,4 @@ pub mod Laws
 pub mod Settings
 pub mod Hears
 pub mod Sound
+pub mod Earlier
