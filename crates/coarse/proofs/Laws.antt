@@ -49,6 +49,16 @@ unfolding pick
 either-or true b h = refl
 either-or false b h = h refl
 
+pub either-right : (a b : Bool) → either a b ≡ false → b ≡ false
+unfolding pick
+either-right true b h = absurd (true≢false h)
+either-right false b h = h
+
+pub both-fails : (a b : Bool) → b ≡ false → both a b ≡ false
+unfolding pick
+both-fails true b h = h
+both-fails false b h = refl
+
 pub both-and : (a b : Bool) → a ≡ true → b ≡ true → both a b ≡ true
 unfolding pick
 both-and true b h k = k

@@ -3,3 +3,4 @@ pub mod Settings
 pub mod Hears
 pub mod Sound
 pub mod Earlier
+pub mod Alike
