@@ -9,31 +9,35 @@ use native.Mathlib.Omega.{arith}
 use lib.Dec.{T, leb, ltb, eqb}
 use lib.ListN.{length, set, take, drop, length-set, length-append, length-take, length-drop, take-append-drop}
 use lib.Seq.{getD-set-other}
-use lib.Ieee.{Float, nan}
+use lib.Ieee.{Float, nan, binary32, fits}
+use lib.Ieee.Fits.{nan-fits}
 use lib.Ieee.Scale.{finite}
 use borrow.Author.Tests.{ltb-true, ltb-false, eqb-true, eqb-false, ne-eqb, not-true, not-false}
 use Rattle.answers.specs.Pick.{pick, both, either, pick-true, pick-false, pick-case}
 use Rattle.answers.specs.Refusals.{require, before, none, notFinite, noFullFrame, tooLarge, wrongLength}
 use Rattle.answers.specs.Numbers.{limit}
-use Rattle.folds.specs.Sums.{zeros, at, allFinite, prefixSums, prefixSquares}
+use Rattle.floats.specs.Functions.{zero64}
+use Rattle.folds.specs.Sums.{zeros, table, at, allFinite, prefixSums, prefixSquares}
 use Rattle.coarse.specs.Bins.{envelopeLen, windowLen, lags}
 use Rattle.coarse.specs.State.{Buffers, World, finished, full, idle, due, firstRefusals, keepsRules}
 use Rattle.coarse.specs.Blocks.{Heard, hearAll, Seen, gather, dropped, onGrid, firstBin, summed, levelOf}
 use Rattle.coarse.specs.Scoring.{uncovered, windowOf, binAt, quiet, flat, scoresOf}
-use Rattle.coarse.specs.Calls.{Observation, FarPush, NearPush, Clearing, Restart, allLengths, frameOf, windowIn, isUncovered, isAhead, readable, consumed, withNearVerdict, farRefusal, pushedFar, nearRefusal, pushedNear, scoreRefusal, counted, judged, scoredFrame, observed, clearing, clearRefusal, rearmed, discarded, resetRefusal, wasReset, reportRefusal, binSamples, ceilingSamples, regionOf, beyondCeiling, isFinished, isExhausted, framesOf, correlationOf}
+use Rattle.coarse.specs.Calls.{Observation, FarPush, NearPush, Clearing, Restart, allLengths, frameOf, windowIn, isUncovered, isAhead, readable, consumed, withNearVerdict, farRefusal, pushedFar, nearRefusal, pushedNear, scoreRefusal, counted, judged, scoredFrame, observed, takenBy, clearing, clearRefusal, rearmed, discarded, resetRefusal, wasReset, reportRefusal, binSamples, ceilingSamples, regionOf, beyondCeiling, isFinished, isExhausted, framesOf, correlationOf}
 use Rattle.coarse.specs.Steps
-use Rattle.coarse.specs.Steps.{Report, «bin_samples», «ceiling_samples», region, «beyond_ceiling», frames, correlation, exhausted, Deed, near, score, rearm, discard, reset, ask, Call, far, deed, Response, refusalOf, changes, Step, withLagSums, reported, called}
-use Rattle.coarse.specs.Streams.{begins, AllF32, FairDeed, FairCall, LateDeed, accepted, Lengths, lengthsOf, CleanCall, push, does, asCall, unheard, earlyOf, lateOf, cleanFar}
+use Rattle.coarse.specs.Steps.{Report, «bin_samples», «ceiling_samples», region, «beyond_ceiling», frames, correlation, exhausted, Deed, near, score, rearm, discard, reset, ask, Call, far, deed, Response, refusalOf, changes, takes, Step, step, withLagSums, reported, called}
+use Rattle.coarse.specs.Streams.{begins, AllF32, FairDeed, FairCall, LateDeed, LateCall, Fair, Late, Item, own, foreign, answers, cleanAnswers, cleaned, accepted, Lengths, lengthsOf, CleanCall, push, does, asCall, unheard, cleanCall}
 use Rattle.coarse.specs.declared.Geometry.{Geometry}
 use Rattle.coarse.specs.declared.Far.{Far}
 use Rattle.coarse.specs.declared.Near.{Near}
 use Rattle.coarse.specs.declared.Verdict.{Verdict}
 use Rattle.coarse.specs.declared.Scan.{Scan}
-use Rattle.coarse.specs.declared.Frame.{Frame}
-use Rattle.coarse.proofs.Laws.{pick-both, unless-both, is-true, holds, either-right, both-fails, both-and, both-left, both-right, stored-alike, take-alike, table-alike, finite-append}
+use Rattle.coarse.specs.declared.Taking.{Taking}
+use Rattle.coarse.specs.declared.Taking.the-variants as taking
+use Rattle.coarse.proofs.Laws.{pick-both, unless-case, unless-both, is-true, holds, either-right, both-fails, both-and, both-left, both-right, stored-alike, take-alike, length-table, length-zeros, table-alike, table-front, all-zeros, all-finite, finite-append}
 use Rattle.coarse.proofs.Settings.{Allowed, some, wide}
 use Rattle.coarse.proofs.Hears.{withSum, HeardAlike, hears-all, muted}
-use Rattle.coarse.proofs.Sound.{heardIn, seenIn, Sound, first-refusals, FarTaken, far-taken, Scoreable, scoreable, farStep, nearStep, scoreStep, clearStep, resetStep}
+use Rattle.coarse.proofs.Earlier.{f32-append, call-passes}
+use Rattle.coarse.proofs.Sound.{heardIn, seenIn, Sound, first-refusals, FarTaken, far-taken, Scoreable, scoreable, farStep, nearStep, scoreStep, clearStep, resetStep, called-sound}
 
 -- what the near side may read: the frame's levels, and a frame that began late enough
 pub record SeenAlike (least : ℕ) (t u : Seen) : Type 0 where
@@ -66,6 +70,45 @@ is-other slack block w v h =
       scan = record { geometry = h .geometry i; far = h .heard .numbers i; near = h .seen .near i; verdict = h .verdict i };
       buffers = withLagSums (v .buffers) (h .lagSums i);
     }
+
+-- ---- samples that nobody may look at
+
+length-unheard : (n : ℕ) (fine : Bool) → length (unheard n fine) ≡ n
+length-unheard n true = length-zeros n
+length-unheard n false = length-table _ n
+
+-- they are finite where those in whose place they stand are
+unheard-finite : (xs : List Float) → allFinite (unheard (length xs) (allFinite xs)) ≡ allFinite xs
+unheard-finite [] = (unfold allFinite zeros table in refl)
+unheard-finite (x ∷ xs) = go (allFinite (x ∷ xs))
+  where
+    go : (fine : Bool) → allFinite (unheard (suc (length xs)) fine) ≡ fine
+    go true = all-finite (λ z. finite z ≡ true) _ (λ z e. e) (all-zeros _ (suc (length xs)) refl)
+    go false = ap allFinite (table-front nan (length xs)) ∙ (unfold allFinite pick in refl)
+
+f32-table : (x : Float) (n : ℕ) → T (fits binary32 x) → AllF32 (table (λ i. x) n)
+unfolding table
+f32-table x zero h = tt
+f32-table x (suc n) h = f32-append (table (λ i. x) n) (x ∷ []) (f32-table x n h) (h, tt)
+
+f32-drop : (n : ℕ) (xs : List Float) → AllF32 xs → AllF32 (drop n xs)
+f32-drop zero xs h = h
+f32-drop (suc n) [] h = h
+f32-drop (suc n) (x ∷ xs) h = f32-drop n xs (h .1)
+
+unheard-f32 : (n : ℕ) (fine : Bool) → AllF32 (unheard n fine)
+unheard-f32 n true = (unfold zeros in f32-table zero64 n (unfold fits in tt))
+unheard-f32 n false = f32-table nan n (nan-fits binary32)
+
+near-accepted : (slack : ℕ) (w : World) (x : Float) (index : ℕ) → nearRefusal (w .scan) (w .buffers .levels) x index ≡ 0 → accepted slack w (deed (near x index))
+unfolding called pushedNear
+near-accepted slack w x index z =
+    unless-case P (nearRefusal (w .scan) (w .buffers .levels) x index) _ _ (λ r. absurd (r z))
+    (λ c. pick-case P (finished (w .scan .verdict)) _ _ (λ f. refl)
+    (λ f. pick-case P (dropped (w .scan .geometry) (w .scan .near) index) _ _ (λ d. refl) (λ d. pick-case (λ (a : Taking). refusalOf (takes a) ≡ none) _ _ _ (λ t. refl) (λ t. refl))))
+  where
+    P : NearPush → Type 0
+    P p = refusalOf (takes (p .took .answer)) ≡ none
 
 module _ (slack block : ℕ) (w : World) (sum : Float) (b : Buffers) (h : Alike slack block w (other w sum b)) (s : Sound slack w) (s' : Sound slack (other w sum b)) where
   abbrev g : Geometry
@@ -212,3 +255,163 @@ module _ (slack block : ℕ) (w : World) (sum : Float) (b : Buffers) (h : Alike 
   report-same correlation = (unfold correlationOf in rw report-refusal)
   report-same Steps.finished = (unfold isFinished in rw report-refusal)
   report-same exhausted = (unfold isExhausted in rw report-refusal)
+
+  -- ---- near samples
+
+  late-bin : (index : ℕ) → finished (w .scan .verdict) ≡ false → dropped g (w .scan .near) index ≡ false → (T (begins (w .scan) index) → (block + g .span) * g .decimation ≤ index)
+      → block + g .span ≤ firstBin g (w .scan .near) index
+  late-bin index f d late =
+      pick-case (λ (z : ℕ). block + g .span ≤ z) (idle (w .scan .near)) _ _
+      (λ i. le-div-iff-mul-le (some g (s .allowed)) .1 (late (holds _ (both-and _ _ (ap not f) (both-and _ _ i (not-false (onGrid g index) (sym (pick-true (idle (w .scan .near)) _ false i) ∙ d)))))))
+      (λ i. h .seen .first i)
+
+  gather-alike : (x : Float) (index : ℕ) → block + g .span ≤ firstBin g (w .scan .near) index → SeenAlike (block + g .span) (gather g (seenIn w) x index) (gather g (seenIn v) x index)
+  unfolding gather
+  gather-alike x index l =
+      pick-both (SeenAlike (block + g .span)) (eqb (w .scan .near .count + 1) (g .decimation)) _ _ _ _
+      (λ c. record { near = refl; length = simp length-set (h .seen .length); levels = λ j k. stored j (eq-or-lt-of-le (omega arith)); first = λ i. l })
+      (λ c. record { near = refl; length = h .seen .length; levels = h .seen .levels; first = λ i. l })
+    where
+      n : ℕ
+      n = w .scan .near .len
+
+      level : Float
+      level = levelOf g (summed (w .scan .near .sum) x)
+
+      stored : (j : ℕ) → (j ≡ w .scan .near .len) ⊎ (j < w .scan .near .len) → at (set (b .levels) (w .scan .near .len) level) j ≡ at (set (w .buffers .levels) (w .scan .near .len) level) j
+      stored j (inl e) = rw e (stored-alike (b .levels) (w .buffers .levels) (w .scan .near .len) level (h .seen .length))
+      stored j (inr l) = getD-set-other (b .levels) n j level nan (omega arith) ∙ h .seen .levels j l ∙ sym (getD-set-other (w .buffers .levels) n j level nan (omega arith))
+
+  near-alike : (x : Float) (index : ℕ) → LateDeed slack block w (near x index) → Both (nearStep (w .buffers) (pushedNear (w .scan) (w .buffers .levels) x index)) (nearStep (v .buffers) (pushedNear (v .scan) (b .levels) x index))
+  unfolding pushedNear
+  near-alike x index late =
+      rw (near-refusal x index)
+      (unless-both P (nearRefusal (w .scan) (w .buffers .levels) x index) _ _ _ _ unchanged
+      (λ z. pick-both P (finished (w .scan .verdict)) _ _ _ _ (λ f. unchanged)
+      (λ f. pick-both P (dropped g (w .scan .near) index) _ _ _ _ (λ d. unchanged)
+      (λ d. taken _ _ (gather-alike x index (late-bin index f d (late (near-accepted slack w x index z))))))))
+    where
+      P : NearPush → NearPush → Type 0
+      P p q = Both (nearStep (w .buffers) p) (nearStep (v .buffers) q)
+
+      unchanged : {a : Taking} → Both (step (takes a) (w .scan) (w .buffers)) (step (takes a) (v .scan) (v .buffers))
+      unchanged {a} = record { response = refl; world = h }
+
+      taken : (t u : Seen) → SeenAlike (block + g .span) t u → P (takenBy (w .scan) t) (takenBy (v .scan) u)
+      taken t u k =
+          record {
+            response = ap (λ (n : Near). takes (pick (full g n) taking.Full taking.Taken)) (k .near);
+            world =
+                record {
+                  geometry = refl;
+                  verdict = refl;
+                  heard = h .heard;
+                  seen = k;
+                  lengths = λ i. record { levels = k .length i; window = h .lengths i .window; prefix = h .lengths i .prefix; squares = h .lengths i .squares; scores = h .lengths i .scores };
+                  lagSums = refl;
+                };
+          }
+
+  -- ---- far samples
+
+  module _ (xs : List Float) where
+    -- so many of them are numbered below the block's first sample
+    abbrev early : ℕ
+    early = block * g .decimation - w .scan .far .accepted
+
+    abbrev fine : Bool
+    fine = allFinite (take early xs)
+
+    abbrev ys : List Float
+    ys = unheard (min early (length xs)) fine ++ drop early xs
+
+    ys-length : length ys ≡ length xs
+    ys-length = omega (arith, length-append (unheard (min early (length xs)) fine) (drop early xs), length-unheard (min early (length xs)) fine, length-drop early xs)
+
+    ys-finite : allFinite ys ≡ allFinite xs
+    ys-finite =
+        finite-append (unheard (min early (length xs)) fine) (drop early xs)
+        ∙ ap (λ (t : Bool). both t (allFinite (drop early xs))) (ap (λ (n : ℕ). allFinite (unheard n fine)) (sym (length-take early xs)) ∙ unheard-finite (take early xs))
+        ∙ sym (finite-append (take early xs) (drop early xs))
+        ∙ ap allFinite (take-append-drop early xs)
+
+    ys-f32 : AllF32 xs → AllF32 ys
+    ys-f32 t = f32-append (unheard (min early (length xs)) fine) (drop early xs) (unheard-f32 (min early (length xs)) fine) (f32-drop early xs t)
+
+    fine-true : allFinite xs ≡ true → fine ≡ true
+    fine-true f = both-left fine (allFinite (drop early xs)) (sym (finite-append (take early xs) (drop early xs)) ∙ ap allFinite (take-append-drop early xs) ∙ f)
+
+    far-refusal : farRefusal slack (v .scan) (b .envelope) ys ≡ farRefusal slack (w .scan) (w .buffers .envelope) xs
+    unfolding farRefusal
+    far-refusal =
+        let e = first-same (eqb (length (w .buffers .envelope)) (envelopeLen slack (due (w .scan)))) (eqb (length (b .envelope)) (envelopeLen slack (due (w .scan)))) (ap (λ (n : ℕ). eqb n (envelopeLen slack (due (w .scan)))) (h .heard .lengths)) in
+        let l = ys-length in
+        let f = ys-finite in
+        cc
+
+    far-alike : AllF32 xs → Both (farStep (w .buffers) (pushedFar slack (w .scan) (w .buffers .envelope) xs)) (farStep (v .buffers) (pushedFar slack (v .scan) (b .envelope) ys))
+    unfolding pushedFar
+    far-alike t =
+        rw far-refusal
+        (unless-both (λ (p q : FarPush). Both (farStep (w .buffers) p) (farStep (v .buffers) q)) (farRefusal slack (w .scan) (w .buffers .envelope) xs) _ _ _ _ (record { response = refl; world = h })
+        (λ z. let c = far-taken slack w xs z .finite in record {
+          response = refl;
+          world =
+              record {
+                geometry = refl;
+                verdict = refl;
+                heard =
+                    subst (λ (t : Bool). HeardAlike slack g block (hearAll slack g (heardIn w) xs) (hearAll slack g (heardIn v) (unheard (min early (length xs)) t ++ drop early xs))) (sym (fine-true c))
+                    (hears-all slack g block (s .allowed) xs early (heardIn w) (heardIn v) (omega arith) c t (s .far .heard) (h .heard));
+                seen = h .seen;
+                lengths = h .lengths;
+                lagSums = refl;
+              };
+        }))
+
+  -- ---- every call
+
+  deed-alike : (d : Deed) → FairDeed slack w d → LateDeed slack block w d → Both (called slack w (deed d)) (called slack v (deed d))
+  deed-alike (near x index) f l = (unfold called in near-alike x index l)
+  deed-alike score f l = (unfold called in score-alike)
+  deed-alike rearm f l = (unfold called rearmed pick in clear-alike _ _ refl (λ i. absurd (true≢false i)))
+  deed-alike discard f l = (unfold called discarded pick in clear-alike _ _ refl (λ i. absurd (true≢false i)))
+  deed-alike reset f l = (unfold called in reset-alike f)
+  deed-alike (ask r) f l = (unfold called in record { response = report-same r; world = h })
+
+  call-alike : (c : Call) → FairCall slack w c → LateCall slack block w c → Both (called slack w c) (called slack v (asCall (cleanCall (block * g .decimation) w c)))
+  call-alike (far xs) f l = (unfold called in far-alike xs f)
+  call-alike (deed d) f l = deed-alike d f l
+
+  -- the second call is as fair as the first
+  call-fair : (c : Call) → FairCall slack w c → LateCall slack block w c → FairCall slack v (asCall (cleanCall (block * g .decimation) w c))
+  call-fair (far xs) f l = ys-f32 xs f
+  call-fair (deed (near x index)) f l = f
+  call-fair (deed score) f l = f
+  call-fair (deed rearm) f l = f
+  call-fair (deed discard) f l = f
+  call-fair (deed reset) f l = λ e. f (ap refusalOf (sym (deed-alike reset f l .response)) ∙ e)
+  call-fair (deed (ask r)) f l = f
+
+-- ---- a list of calls
+
+module _ (slack block : ℕ) where
+  -- the same for any two worlds alike
+  pub called-alike : (w v : World) (c : Call) → Alike slack block w v → Sound slack w → Sound slack v → FairCall slack w c → LateCall slack block w c
+      → AnswersAlike slack block (called slack w c) (called slack v (asCall (cleanCall (block * w .scan .geometry .decimation) w c))) × FairCall slack v (asCall (cleanCall (block * w .scan .geometry .decimation) w c))
+  called-alike w v c h s s' f l =
+      subst
+      (λ (z : World). Alike slack block w z → Sound slack z
+      → AnswersAlike slack block (called slack w c) (called slack z (asCall (cleanCall (block * w .scan .geometry .decimation) w c))) × FairCall slack z (asCall (cleanCall (block * w .scan .geometry .decimation) w c)))
+      (sym (is-other slack block w v h)) (λ h s'. (call-alike slack block w (v .scan .far .sum) (v .buffers) h s s' c f l, call-fair slack block w (v .scan .far .sum) (v .buffers) h s s' c f l)) h s'
+
+  pub answers-alike : (first : ℕ) (items : List Item) (w v : World) → Alike slack block w v → Sound slack w → Sound slack v → Fair slack w items → Late slack block w items → first ≡ block * w .scan .geometry .decimation
+      → answers slack w items ≡ cleanAnswers slack v (cleaned slack first w items)
+  unfolding answers cleanAnswers cleaned
+  answers-alike first [] w v h s s' f l e = refl
+  answers-alike first (own c ∷ items) w v h s s' f l e =
+      let o = rw (← e) at (called-alike w v c h s s' (f .0) (l .0)) in
+      ap₂ {A = Response} {B = List Response} (λ (a : Response) (rest : List Response). a ∷ rest) (sym (o .0 .response))
+      (answers-alike first items (called slack w c .world) (called slack v (asCall (cleanCall first w c)) .world) (o .0 .world) (called-sound slack w s c (f .0)) (called-sound slack v s' (asCall (cleanCall first w c)) (o .1)) (f .1) (l .1)
+      (e ∙ ap (λ (g : Geometry). block * g .decimation) (sym (call-passes slack w s c (f .0) .geometry))))
+  answers-alike first (foreign u c ∷ items) w v h s s' f l e = answers-alike first items w v h s s' (f .1) l e

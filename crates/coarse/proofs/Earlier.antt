@@ -37,7 +37,7 @@ still : (slack : ℕ) (w v : World) → v .scan .geometry ≡ w .scan .geometry 
 unfolding hearAll allFinite
 still slack w v g h l = record { geometry = g; heard = h; lengths = l; samples = tt; finite = refl }
 
-f32-append : (xs ys : List Float) → AllF32 xs → AllF32 ys → AllF32 (xs ++ ys)
+pub f32-append : (xs ys : List Float) → AllF32 xs → AllF32 ys → AllF32 (xs ++ ys)
 f32-append [] ys h k = k
 f32-append (x ∷ xs) ys h k = (h .0, f32-append xs ys (h .1) k)
 
@@ -164,7 +164,7 @@ module _ (slack : ℕ) (w : World) (s : Sound slack w) where
   deed-passes reset f = reset-passes f
   deed-passes (ask r) f = (unfold called in same)
 
-  call-passes : (c : Call) → FairCall slack w c → Passed slack w (called slack w c .world) (broughtBy slack w c)
+  pub call-passes : (c : Call) → FairCall slack w c → Passed slack w (called slack w c .world) (broughtBy slack w c)
   call-passes (far xs) f = far-passes xs f
   call-passes (deed d) f = deed-passes d f
 

@@ -147,6 +147,10 @@ unfolding table
 all-table P f zero h = tt
 all-table P f (suc n) h = all-append P (table f n) (f n ∷ []) (all-table P f n (λ i l. h i (omega arith))) (h n (omega arith), tt)
 
+pub all-zeros : (P : Float → Type 0) (n : ℕ) → P zero64 → All P (zeros n)
+unfolding zeros
+all-zeros P n h = all-table P (λ i. zero64) n (λ i l. h)
+
 pub all-at : (P : Float → Type 0) (xs : List Float) (i : ℕ) → i < length xs → All P xs → P (at xs i)
 all-at P [] i l h = absurd (omega arith)
 all-at P (x ∷ xs) zero l h = h .0

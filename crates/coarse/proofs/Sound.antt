@@ -31,7 +31,7 @@ use Rattle.coarse.specs.declared.Far.{Far}
 use Rattle.coarse.specs.declared.Near.{Near}
 use Rattle.coarse.specs.declared.Verdict.{Verdict}
 use Rattle.coarse.specs.declared.Scan.{Scan}
-use Rattle.coarse.proofs.Laws.{unless-case, either-or, both-and, both-left, All, all-append, all-table, length-table, length-zeros}
+use Rattle.coarse.proofs.Laws.{unless-case, either-or, both-and, both-left, All, all-append, all-zeros, length-table, length-zeros}
 use Rattle.coarse.proofs.Settings.{Allowed, few, some, wide, same-geometry, geometry-by}
 use Rattle.coarse.proofs.Hears.{HeardSound, summed-at-most, block-level, hearAll-accepted, hearAll-length, hearAll-sound}
 
@@ -345,17 +345,13 @@ fresh slack g lent =
       buffers = withLagSums (withEnvelope lent (zeros (envelopeLen slack g))) (zeros (lags g));
     }
 
-all-zeros : (n : ℕ) → All (AtMost 1) (zeros n)
-unfolding zeros
-all-zeros n = all-table (AtMost 1) _ n (λ i l. lit≤ tt)
-
 pub fresh-sound : (slack : ℕ) (g : Geometry) (lent : Buffers) → Allowed g → Sound slack (fresh slack g lent)
 fresh-sound slack g lent a =
     record {
       allowed = a;
       far =
           record {
-            heard = record { placed = omega arith; partial = some g a; sum = zero-at-most; levels = all-zeros (envelopeLen slack g) };
+            heard = record { placed = omega arith; partial = some g a; sum = zero-at-most; levels = all-zeros (AtMost 1) (envelopeLen slack g) (lit≤ tt) };
             accepted = lit≤ tt;
             length = length-zeros (envelopeLen slack g);
           };

@@ -95,10 +95,13 @@ LateDeed slack block w discard = Unit {0}
 LateDeed slack block w reset = Unit {0}
 LateDeed slack block w (ask r) = Unit {0}
 
+abbrev pub LateCall : ℕ → ℕ → World → Call → Type 0
+LateCall slack block w (far xs) = Unit {0}
+LateCall slack block w (deed d) = LateDeed slack block w d
+
 abbrev pub Late : ℕ → ℕ → World → List Item → Type 0
 Late slack block w [] = Unit {0}
-Late slack block w (own (far xs) ∷ items) = Late slack block (called slack w (far xs) .world) items
-Late slack block w (own (deed d) ∷ items) = LateDeed slack block w d × Late slack block (called slack w (deed d) .world) items
+Late slack block w (own c ∷ items) = LateCall slack block w c × Late slack block (called slack w c .world) items
 Late slack block w (foreign v c ∷ items) = Late slack block w items
 
 -- the stream began: a making, or a reset of a scan with these settings, was not refused, and this is what it left
@@ -169,14 +172,17 @@ earlyOf limit n xs = min (limit - n) (length xs)
 abbrev pub lateOf : ℕ → ℕ → List Float → List Float
 lateOf limit n xs = drop (limit - n) xs
 
-abbrev pub cleanFar : ℕ → ℕ → List Float → CleanCall
-cleanFar limit n xs = push (earlyOf limit n xs) (allFinite (take (limit - n) xs)) (lateOf limit n xs)
+-- a call, with nothing left of the samples below the limit but their number and whether they are finite
+abbrev pub cleanCall : ℕ → World → Call → CleanCall
+cleanCall limit w (far xs) =
+    let n = w .scan .far .accepted in
+    push (earlyOf limit n xs) (allFinite (take (limit - n) xs)) (lateOf limit n xs)
+cleanCall limit w (deed d) = does d
 
 -- the calls since the rearm
 unfoldable pub cleaned : ℕ → ℕ → World → List Item → List CleanCall
 cleaned slack limit w [] = []
-cleaned slack limit w (own (far xs) ∷ items) = cleanFar limit (w .scan .far .accepted) xs ∷ cleaned slack limit (called slack w (far xs) .world) items
-cleaned slack limit w (own (deed d) ∷ items) = does d ∷ cleaned slack limit (called slack w (deed d) .world) items
+cleaned slack limit w (own c ∷ items) = cleanCall limit w c ∷ cleaned slack limit (called slack w c .world) items
 cleaned slack limit w (foreign v c ∷ items) = cleaned slack limit w items
 
 abbrev pub lengthsOf : Buffers → Lengths
