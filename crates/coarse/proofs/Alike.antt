@@ -35,8 +35,8 @@ use Rattle.coarse.specs.declared.Taking.{Taking}
 use Rattle.coarse.specs.declared.Taking.the-variants as taking
 use Rattle.coarse.proofs.Laws.{pick-both, unless-case, unless-both, is-true, holds, either-right, both-fails, both-and, both-left, both-right, stored-alike, take-alike, length-table, length-zeros, table-alike, table-front, all-zeros, all-finite, finite-append}
 use Rattle.coarse.proofs.Settings.{Allowed, some, wide}
-use Rattle.coarse.proofs.Hears.{withSum, HeardAlike, hears-all, muted}
-use Rattle.coarse.proofs.Earlier.{f32-append, call-passes}
+use Rattle.coarse.proofs.Hears.{withSum, HeardAlike, hears-all, muted, f32-append, f32-table, f32-drop}
+use Rattle.coarse.proofs.Earlier.{call-passes}
 use Rattle.coarse.proofs.Sound.{heardIn, seenIn, Sound, first-refusals, FarTaken, far-taken, Scoreable, scoreable, farStep, nearStep, scoreStep, clearStep, resetStep, called-sound}
 
 -- what the near side may read: the frame's levels, and a frame that began late enough
@@ -86,17 +86,7 @@ unheard-finite (x ∷ xs) = go (allFinite (x ∷ xs))
     go true = all-finite (λ z. finite z ≡ true) _ (λ z e. e) (all-zeros _ (suc (length xs)) refl)
     go false = ap allFinite (table-front nan (length xs)) ∙ (unfold allFinite pick in refl)
 
-f32-table : (x : Float) (n : ℕ) → T (fits binary32 x) → AllF32 (table (λ i. x) n)
-unfolding table
-f32-table x zero h = tt
-f32-table x (suc n) h = f32-append (table (λ i. x) n) (x ∷ []) (f32-table x n h) (h, tt)
-
-f32-drop : (n : ℕ) (xs : List Float) → AllF32 xs → AllF32 (drop n xs)
-f32-drop zero xs h = h
-f32-drop (suc n) [] h = h
-f32-drop (suc n) (x ∷ xs) h = f32-drop n xs (h .1)
-
-unheard-f32 : (n : ℕ) (fine : Bool) → AllF32 (unheard n fine)
+pub unheard-f32 : (n : ℕ) (fine : Bool) → AllF32 (unheard n fine)
 unheard-f32 n true = (unfold zeros in f32-table zero64 n (unfold fits in tt))
 unheard-f32 n false = f32-table nan n (nan-fits binary32)
 

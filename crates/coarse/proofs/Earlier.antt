@@ -21,7 +21,7 @@ use Rattle.coarse.specs.Streams.{Item, own, foreign, after, heard, broug
 use Rattle.coarse.specs.declared.Geometry.{Geometry}
 use Rattle.coarse.specs.declared.Scan.{Scan}
 use Rattle.coarse.proofs.Laws.{unless-case, both-and, both-left, both-right, length-table, finite-append}
-use Rattle.coarse.proofs.Hears.{hearAll-append}
+use Rattle.coarse.proofs.Hears.{hearAll-append, f32-append}
 use Rattle.coarse.proofs.Sound.{heardIn, Sound, Scoreable, scoreable, far-taken, farStep, nearStep, scoreStep, clearStep, resetStep, called-sound}
 
 -- from w to v, with these far samples accepted on the way
@@ -36,10 +36,6 @@ pub record Passed (slack : ℕ) (w v : World) (xs : List Float) : Type 0 where
 still : (slack : ℕ) (w v : World) → v .scan .geometry ≡ w .scan .geometry → heardIn v ≡ heardIn w → lengthsOf (v .buffers) ≡ lengthsOf (w .buffers) → Passed slack w v []
 unfolding hearAll allFinite
 still slack w v g h l = record { geometry = g; heard = h; lengths = l; samples = tt; finite = refl }
-
-pub f32-append : (xs ys : List Float) → AllF32 xs → AllF32 ys → AllF32 (xs ++ ys)
-f32-append [] ys h k = k
-f32-append (x ∷ xs) ys h k = (h .0, f32-append xs ys (h .1) k)
 
 then : (slack : ℕ) (w v u : World) (xs ys : List Float) → Passed slack w v xs → Passed slack v u ys → Passed slack w u (xs ++ ys)
 then slack w v u xs ys p q =

@@ -85,6 +85,22 @@ module _ (slack : ℕ) (g : Geometry) where
     hearAll-sound h [] s f t = s
     hearAll-sound h (x ∷ xs) s f t = hearAll-sound (hear slack g h x) xs (hear-sound h x s (both-left (finite x) (allFinite xs) f) (t .0)) (both-right (finite x) (allFinite xs) f) (t .1)
 
+-- ---- samples of the type f32
+
+pub f32-append : (xs ys : List Float) → AllF32 xs → AllF32 ys → AllF32 (xs ++ ys)
+f32-append [] ys h k = k
+f32-append (x ∷ xs) ys h k = (h .0, f32-append xs ys (h .1) k)
+
+pub f32-table : (x : Float) (n : ℕ) → T (fits binary32 x) → AllF32 (table (λ i. x) n)
+unfolding table
+f32-table x zero h = tt
+f32-table x (suc n) h = f32-append (table (λ i. x) n) (x ∷ []) (f32-table x n h) (h, tt)
+
+pub f32-drop : (n : ℕ) (xs : List Float) → AllF32 xs → AllF32 (drop n xs)
+f32-drop zero xs h = h
+f32-drop (suc n) [] h = h
+f32-drop (suc n) (x ∷ xs) h = f32-drop n xs (h .1)
+
 -- ---- two far sides
 
 -- the same far numbers with another running sum

@@ -4,3 +4,4 @@ pub mod Hears
 pub mod Sound
 pub mod Earlier
 pub mod Alike
+pub mod Forgets

@@ -362,14 +362,13 @@ fresh-sound slack g lent a =
 
 pub record Fresh (slack rate ceiling : ℕ) (w : World) : Type 0 where
   pub inside : inTable rate ceiling ≡ true
-  pub lent : Buffers
-  pub is : w ≡ fresh slack (geometryOf rate ceiling) lent
+  pub is : w ≡ fresh slack (geometryOf rate ceiling) (w .buffers)
 
 making-fresh : (slack rate ceiling : ℕ) (lent : Buffers) → refusalOf (making slack rate ceiling lent .response) ≡ none → Fresh slack rate ceiling (making slack rate ceiling lent .world)
 unfolding making made makingRefusal
 making-fresh slack rate ceiling lent =
     unless-case (λ (p : Restart). refusalOf (changes (p .changed .answer)) ≡ none → Fresh slack rate ceiling (resetStep lent p .world)) (makingRefusal slack rate ceiling (lent .envelope) (lent .lagSums)) _ _
-    (λ r e. absurd (r e)) (λ z e. record { inside = passed (inTable rate ceiling) 0 _ z .0; lent = lent; is = refl })
+    (λ r e. absurd (r e)) (λ z e. record { inside = passed (inTable rate ceiling) 0 _ z .0; is = refl })
 
 reset-fresh : (slack rate ceiling : ℕ) (w : World) → w .scan .geometry .rate ≡ rate → w .scan .geometry .ceiling ≡ ceiling → accepted slack w (deed reset) → Fresh slack rate ceiling (called slack w (deed reset) .world)
 unfolding called wasReset resetRefusal
@@ -378,7 +377,6 @@ reset-fresh slack rate ceiling w p q =
     (λ r e. absurd (r e))
     (λ z e. let a = first-passed (w .scan) _ z in record {
       inside = rw (← p, ← q) (a .inside);
-      lent = w .buffers;
       is = ap (λ (g : Geometry). fresh slack g (w .buffers)) (follows-by (w .scan) (a .rules) ∙ ap₂ {A = ℕ} {B = ℕ} geometryOf p q);
     })
 
