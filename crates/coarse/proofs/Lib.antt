@@ -1,5 +1,6 @@
 pub mod Laws
 pub mod Settings
+pub mod Sizes
 pub mod Hears
 pub mod Sound
 pub mod Earlier

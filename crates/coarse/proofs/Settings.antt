@@ -1,13 +1,14 @@
 -- What is known of a geometry that follows from a rate and a ceiling of the table.
-use Prim.Native.Nat.{ℕ, _+_, _*_, _≤_, _<_}
+use Prim.Native.Nat.{ℕ, _+_, _*_, _/_, _≤_, _<_}
 use mathlib.Core.Path.{_≡_, refl, sym, subst}
 use mathlib.Core.Bool.{Bool, true}
+use native.Mathlib.Nat.{mul-le-mul, div-lt-iff-lt-mul}
 use native.Mathlib.Omega.{arith}
 use lib.Dec.{leb, eqb}
 use borrow.Author.Tests.{leb-true, eqb-true, eq-eqb}
 use Rattle.answers.specs.Pick.{both}
 use Rattle.answers.specs.Numbers.{within, allowedRate, allowedCeiling}
-use Rattle.coarse.specs.Bins.{inTable, geometryOf, sameGeometry}
+use Rattle.coarse.specs.Bins.{inTable, decimationOf, binRateOf, geometryOf, sameGeometry, windowLen}
 use Rattle.coarse.specs.declared.Geometry.{Geometry}
 use Rattle.coarse.proofs.Laws.{both-and, both-left, both-right}
 
@@ -70,3 +71,22 @@ geometry-by g h r c t =
       «ceiling_guard» = eqb-true (g .«ceiling_guard») (h .«ceiling_guard») (both-left (eqb (g .«ceiling_guard») (h .«ceiling_guard»)) _ e₄) i;
       «peak_guard» = eqb-true (g .«peak_guard») (h .«peak_guard») (both-right (eqb (g .«ceiling_guard») (h .«ceiling_guard»)) _ e₄) i;
     }
+
+-- ---- how long a window can be
+
+rate-bound : (rate : ℕ) → binRateOf rate ≤ 1500
+rate-bound rate =
+    let p : 0 < decimationOf rate = omega arith in
+    let m : rate < 1501 * decimationOf rate = omega arith in
+    let l : rate / decimationOf rate < 1501 = div-lt-iff-lt-mul p .1 m in
+    omega arith
+
+short-of : (rate ceiling : ℕ) → inTable rate ceiling ≡ true → windowLen (geometryOf rate ceiling) ≤ 8000
+unfolding inTable geometryOf
+short-of rate ceiling t =
+    let c : ceiling ≤ 4000 = leb-true ceiling 4000 (both-right (leb 1 ceiling) (leb ceiling 4000) (both-right (allowedRate rate) (allowedCeiling ceiling) t)) in
+    let p : ceiling * binRateOf rate ≤ 4000 * 1500 = mul-le-mul c (rate-bound rate) in
+    omega (arith, rate-bound rate)
+
+pub short : (g : Geometry) → Allowed g → windowLen g ≤ 8000
+short g a = subst (λ (h : Geometry). windowLen h ≤ 8000) (sym (a .follows)) (short-of (g .rate) (g .ceiling) (a .inside))
