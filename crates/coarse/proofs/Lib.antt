@@ -1,6 +1,7 @@
 pub mod Laws
 pub mod Settings
 pub mod Sizes
+pub mod Scores
 pub mod Hears
 pub mod Sound
 pub mod Earlier

@@ -291,3 +291,22 @@ level-size (fin false m e) h = le-trans h (mul-le-mul-right (down e) (lit≤ tt)
 pub whole-at-least : (n : ℕ) → 0 < n → AtLeast 0 (whole n)
 unfolding ofInt
 whole-at-least n p = round-at-least 0 (lit≤ tt) n 1 (lit< tt) (omega arith)
+
+-- ---- in powers of two
+
+pub at-least-size : (k j : ℕ) (x : Float) → k ≤ j → Size 1 k x → Size 1 j x
+at-least-size k j x l h = wider 1 k 1 j x (mul-le-mul-left 1 (pow-mono l)) h
+
+pub less-size : (k : ℕ) (x y : Float) → k ≤ 900 → Size 1 k x → Size 1 k y → Size 1 (k + 1) (sub binary64 x y)
+less-size k x y l h j = wider 2 k 1 (k + 1) (sub binary64 x y) (le-of-eq (twice (2 ^ k) (2 ^ (k + 1)) (pow-add 2 k 1))) (sub-size 1 1 k x y (record { digits = lit< tt; small = l }) h j)
+  where
+    twice : (w z : ℕ) → z ≡ w * 2 ^ 1 → 2 * w ≡ 1 * z
+    twice w z e = omega arith
+
+pub total-size : (k : ℕ) (t : ℕ → Float) (n : ℕ) → k ≤ 900 → n ≤ 8000 → ((i : ℕ) → i < n → Size 1 k (t i)) → Size 1 (k + 13) (upto t n)
+total-size k t n l m h =
+    wider n k 1 (k + 13) (upto t n) (le-trans (mul-le-mul-right (2 ^ k) (le-trans m (lit≤ {m = 8000} {n = 2 ^ 13} tt))) (le-of-eq (turn (2 ^ k) (2 ^ (k + 13)) (pow-add 2 k 13))))
+    (upto-size k t n (record { digits = lt-of-le-of-lt m (lit< tt); small = l }) h)
+  where
+    turn : (w z : ℕ) → z ≡ w * 2 ^ 13 → 2 ^ 13 * w ≡ 1 * z
+    turn w z e = omega arith

@@ -1,13 +1,13 @@
 -- What every call keeps true of a stream's own state and buffers: the state rules, and that every level and running sum is finite.
-use Prim.Native.Nat.{ℕ, zero, suc, _+_, _*_, _/_, _%_, _≤_, _<_, zero-le}
+use Prim.Native.Nat.{ℕ, zero, suc, _+_, _-_, _*_, _/_, _%_, _≤_, _<_, zero-le}
 use mathlib.Core.Path.{_≡_, refl, sym, ap, ap₂, _∙_, subst}
 use mathlib.Core.List.{List, [], _∷_, _++_}
 use mathlib.Core.Bool.{Bool, true, false, not, true≢false}
-use native.Mathlib.Nat.{div-mul-le-self, lt-of-le-of-lt, mul-add-mod-self-right, mod-eq-of-lt, mul-add-div-right, div-eq-of-lt, add-zero}
+use native.Mathlib.Nat.{mod-lt, div-mul-le-self, lt-of-le-of-lt, mul-add-mod-self-right, mod-eq-of-lt, mul-add-div-right, div-eq-of-lt, add-zero}
 use native.Mathlib.Numerals.{add-one}
 use native.Mathlib.Omega.{arith}
 use lib.Dec.{T, leb, ltb, eqb, lit<, lit≤}
-use lib.ListN.{length, take, set, length-set}
+use lib.ListN.{length, take, set, length-set, length-take}
 use lib.Seq.{take-suc-set}
 use lib.Ieee.{Float, binary32, fits}
 use lib.Ieee.Scale.{finite}
@@ -18,11 +18,11 @@ use Rattle.answers.specs.Numbers.{limit}
 use Rattle.answers.proofs.Refusals.{passed, passed-both}
 use Rattle.floats.specs.Functions.{zero64}
 use Rattle.floats.proofs.Levels.{AtMost, at-most-finite, zero-at-most}
-use Rattle.folds.specs.Sums.{zeros, allFinite}
-use Rattle.coarse.specs.Bins.{inTable, geometryOf, envelopeLen, nearLen, lags}
+use Rattle.folds.specs.Sums.{zeros, at, allFinite}
+use Rattle.coarse.specs.Bins.{inTable, geometryOf, envelopeLen, nearLen, windowLen, lags}
 use Rattle.coarse.specs.State.{Buffers, World, newFar, newNear, newVerdict, finished, full, idle, due, geometryRule, farRule, nearRule, verdictRule, keepsRules, firstRefusals}
 use Rattle.coarse.specs.Blocks.{Heard, hearAll, Seen, gather, dropped, firstBin, summed, levelOf}
-use Rattle.coarse.specs.Scoring.{quiet, flat, Ruling, ruling, scoresOf, addScores}
+use Rattle.coarse.specs.Scoring.{binAt, windowOf, quiet, flat, Ruling, ruling, scoresOf, addScores}
 use Rattle.coarse.specs.Calls.{Observation, FarPush, NearPush, Clearing, Restart, allLengths, frameOf, windowIn, isUncovered, isAhead, readable, consumed, withNearVerdict, countedBy, clearing, makingRefusal, made, resetRefusal, wasReset, farRefusal, pushedFar, nearRefusal, pushedNear, scoreRefusal, counted, judged, scoredFrame, observed, clearRefusal, rearmed, discarded}
 use Rattle.coarse.specs.Steps.{Deed, near, score, rearm, discard, reset, ask, Call, far, deed, refusalOf, changes, takes, scores, Step, step, withEnvelope, withLevels, withLagSums, called, making}
 use Rattle.coarse.specs.Streams.{AllF32, FairDeed, FairCall, accepted, Began, byMaking, byReset}
@@ -31,8 +31,10 @@ use Rattle.coarse.specs.declared.Far.{Far}
 use Rattle.coarse.specs.declared.Near.{Near}
 use Rattle.coarse.specs.declared.Verdict.{Verdict}
 use Rattle.coarse.specs.declared.Scan.{Scan}
-use Rattle.coarse.proofs.Laws.{unless-case, either-or, both-and, both-left, All, all-append, all-zeros, length-table, length-zeros}
+use Rattle.coarse.proofs.Laws.{unless-case, either-or, both-and, both-left, both-right, All, all-append, all-zeros, all-table, all-at, length-table, length-zeros}
 use Rattle.coarse.proofs.Settings.{Allowed, few, some, wide, same-geometry, geometry-by}
+use Rattle.coarse.proofs.Sizes.{Size, add-size}
+use Rattle.coarse.proofs.Scores.{Readable, scores-size}
 use Rattle.coarse.proofs.Hears.{HeardSound, summed-at-most, block-level, hearAll-accepted, hearAll-length, hearAll-sound}
 
 -- ---- the parts of a world, and what holds of each
@@ -60,12 +62,17 @@ pub record VerdictSound (n : Near) (v : Verdict) : Type 0 where
   pub banked : v .banked < 4
   pub rests : finished v ≡ true → idle n ≡ true
 
+-- the lag sums are sums of as many scores as frames are banked
+pub record SumsSound (g : Geometry) (banked : ℕ) (lagSums : List Float) : Type 0 where
+  pub length : lib.ListN.length lagSums ≡ lags g
+  pub sizes : All (Size banked 323) lagSums
+
 pub record Sound (slack : ℕ) (w : World) : Type 0 where
   pub allowed : Allowed (w .scan .geometry)
   pub far : FarSound slack (w .scan .geometry) (heardIn w)
   pub near : NearSound (w .scan .geometry) (seenIn w)
   pub verdict : VerdictSound (w .scan .near) (w .scan .verdict)
-  pub lagSums : length (w .buffers .lagSums) ≡ lags (w .scan .geometry)
+  pub lagSums : SumsSound (w .scan .geometry) (w .scan .verdict .banked) (w .buffers .lagSums)
 
 -- ---- the state rules hold, so that 1 and 3 refuse nothing
 
@@ -206,6 +213,21 @@ module _ (g : Geometry) (a : Allowed g) where
   cleared-sound : (first : ℕ) (levels : List Float) → first * g .decimation < limit → NearSound g (record { near = record { len = 0; sum = zero64; count = 0; first = first }; levels = levels })
   cleared-sound first levels l = record { partial = some g a; whole = λ e. refl; len = zero-le; sum = zero-at-most; first = l; levels = tt }
 
+-- none banked
+none-banked : (g : Geometry) → SumsSound g 0 (zeros (lags g))
+none-banked g = record { length = length-zeros (lags g); sizes = all-zeros (Size 0 323) (lags g) (lit≤ tt) }
+
+-- one more banked
+one-banked : (g : Geometry) (banked : ℕ) (lagSums more : List Float) → banked < 4 → SumsSound g banked lagSums → length more ≡ lags g → All (Size 1 323) more → SumsSound g (banked + 1) (addScores g lagSums more)
+unfolding addScores
+one-banked g banked lagSums more b s e h =
+    record {
+      length = length-table _ (lags g);
+      sizes =
+          all-table (Size (banked + 1) 323) _ (lags g)
+          (λ k l. add-size banked 1 323 (at lagSums k) (at more k) (record { digits = omega arith; small = lit≤ tt }) (all-at (Size banked 323) lagSums k (omega (arith, s .length)) (s .sizes)) (all-at (Size 1 323) more k (omega arith) h));
+    }
+
 -- ---- every call
 
 abbrev pub farStep : Buffers → FarPush → Step
@@ -262,7 +284,7 @@ module _ (slack : ℕ) (w : World) (s : Sound slack w) where
       P p = Sound slack (nearStep (w .buffers) p .world)
 
   -- the frame is consumed: with this verdict and these buffers
-  scored-sound : full g (w .scan .near) ≡ true → (v : Verdict) (b : Buffers) → v .banked < 4 → b .envelope ≡ w .buffers .envelope → length (b .lagSums) ≡ lags g
+  scored-sound : full g (w .scan .near) ≡ true → (v : Verdict) (b : Buffers) → v .banked < 4 → b .envelope ≡ w .buffers .envelope → SumsSound g (v .banked) (b .lagSums)
       → Sound slack (record { scan = withNearVerdict (w .scan) (consumed (w .scan .near)) v; buffers = b })
   scored-sound f v b k e l =
       record {
@@ -273,37 +295,59 @@ module _ (slack : ℕ) (w : World) (s : Sound slack w) where
         lagSums = l;
       }
 
+  -- where the verdict and the lag sums stay
   unruled : full g (w .scan .near) ≡ true → (b : Buffers) → b .envelope ≡ w .buffers .envelope → b .lagSums ≡ w .buffers .lagSums
       → Sound slack (record { scan = withNearVerdict (w .scan) (consumed (w .scan .near)) (w .scan .verdict); buffers = b })
-  unruled f b e l = scored-sound f (w .scan .verdict) b (s .verdict .banked) e (ap (λ (z : List Float). length z) l ∙ s .lagSums)
+  unruled f b e l = scored-sound f (w .scan .verdict) b (s .verdict .banked) e (subst (SumsSound g (w .scan .verdict .banked)) (sym l) (s .lagSums))
 
-  counted-sound : full g (w .scan .near) ≡ true → (levels window : List Float) → Sound slack (scoreStep (counted w levels window) .world)
-  unfolding counted ruling addScores
-  counted-sound f levels window =
+  counted-sound : full g (w .scan .near) ≡ true → (levels window : List Float) → Readable g levels window → flat levels ≡ false → Sound slack (scoreStep (counted w levels window) .world)
+  unfolding counted ruling scoresOf
+  counted-sound f levels window r e =
       let scores = scoresOf g levels window in
       pick-case (λ (r : Ruling). Sound slack (scoreStep (countedBy w window scores r) .world)) (ltb (w .scan .verdict .banked + 1) 4) _ _
-      (λ t. scored-sound f _ _ (ltb-true (w .scan .verdict .banked + 1) 4 t) refl (length-table _ (lags g))) (λ t. scored-sound f _ _ (lit< tt) refl (length-zeros (lags g)))
+      (λ t. scored-sound f _ _ (ltb-true (w .scan .verdict .banked + 1) 4 t) refl
+      (one-banked g (w .scan .verdict .banked) (w .buffers .lagSums) scores (s .verdict .banked) (s .lagSums) (length-table _ (lags g)) (scores-size g (s .allowed) levels window r e)))
+      (λ t. scored-sound f _ _ (lit< tt) refl (none-banked g))
 
-  judged-sound : full g (w .scan .near) ≡ true → (levels window : List Float) → Sound slack (scoreStep (judged w levels window) .world)
+  judged-sound : full g (w .scan .near) ≡ true → (levels window : List Float) → Readable g levels window → Sound slack (scoreStep (judged w levels window) .world)
   unfolding judged
-  judged-sound f levels window =
-      pick-case P (quiet window) _ _ (λ t. unruled f _ refl refl) (λ t. pick-case P (flat levels) _ _ (λ u. unruled f _ refl refl) (λ u. counted-sound f levels window))
+  judged-sound f levels window r =
+      pick-case P (quiet window) _ _ (λ t. unruled f _ refl refl) (λ t. pick-case P (flat levels) _ _ (λ u. unruled f _ refl refl) (λ u. counted-sound f levels window r u))
     where
       P : Observation → Type 0
       P p = Sound slack (scoreStep p .world)
+
+  pub window-small : All (AtMost 1) (windowIn slack w)
+  unfolding windowOf
+  window-small =
+      all-table (AtMost 1) _ (windowLen g)
+      (λ i l. pick-case (AtMost 1) (ltb _ (w .scan .far .next)) _ _ (λ t. all-at (AtMost 1) (w .buffers .envelope) _ (omega (arith, s .far .length, mod-lt (w .scan .near .first - g .span + i) slots)) (s .far .heard .levels)) (λ t. lit≤ tt))
+    where
+      slots : 0 < envelopeLen slack g
+      slots = omega (arith, wide g (s .allowed))
+
+  frame-readable : scoreRefusal slack w ≡ 0 → Readable g (frameOf w) (windowIn slack w)
+  unfolding windowOf
+  frame-readable z =
+      let c = scoreable slack w z in
+      let e = subst (λ (h : Geometry). allLengths slack h (w .buffers) ≡ true) (sym (s .allowed .follows)) (c .lengths) in
+      let l = eqb-true (length (w .buffers .levels)) (nearLen g) (both-left _ _ (both-right (eqb (length (w .buffers .envelope)) (envelopeLen slack g)) _ e)) in
+      let f = eqb-true (w .scan .near .len) (g .frame) (c .full) in
+      record { levels-length = omega (arith, length-take (w .scan .near .len) (w .buffers .levels), l, f); window-length = length-table _ (windowLen g); levels-small = s .near .levels; window-small = window-small }
 
   score-sound : Sound slack (scoreStep (observed slack w) .world)
   unfolding observed scoredFrame
   score-sound =
       unless-case P (scoreRefusal slack w) _ _ (λ r. s)
-      (λ z. pick-case P (isUncovered slack w) _ _ (λ t. unruled (scoreable slack w z .full) (w .buffers) refl refl)
-      (λ t. pick-case P (isAhead w) _ _ (λ u. unruled (scoreable slack w z .full) (w .buffers) refl refl) (λ u. judged-sound (scoreable slack w z .full) (frameOf w) (windowIn slack w))))
+      (λ z. let f = scoreable slack w z .full in
+      pick-case P (isUncovered slack w) _ _ (λ t. unruled f (w .buffers) refl refl)
+      (λ t. pick-case P (isAhead w) _ _ (λ u. unruled f (w .buffers) refl refl) (λ u. judged-sound f (frameOf w) (windowIn slack w) (frame-readable z))))
     where
       P : Observation → Type 0
       P p = Sound slack (scoreStep p .world)
 
   -- no frame is left, nor a block of one
-  clear-sound : (first : ℕ) (v : Verdict) → first * g .decimation < limit → v .banked < 4
+  clear-sound : (first : ℕ) (v : Verdict) → first * g .decimation < limit → v .banked ≡ 0
       → Sound slack (clearStep (w .buffers) (clearing (w .scan) (w .buffers .lagSums) (withNearVerdict (w .scan) (record { len = 0; sum = zero64; count = 0; first = first }) v)) .world)
   clear-sound first v l k =
       unless-case (λ (p : Clearing). Sound slack (clearStep (w .buffers) p .world)) (clearRefusal (w .scan) (w .buffers .lagSums)) _ _ (λ r. s)
@@ -311,8 +355,8 @@ module _ (slack : ℕ) (w : World) (s : Sound slack w) where
         allowed = s .allowed;
         far = s .far;
         near = cleared-sound g (s .allowed) first (w .buffers .levels) l;
-        verdict = record { banked = k; rests = λ e. both-and true true refl refl };
-        lagSums = length-zeros (lags g);
+        verdict = record { banked = omega arith; rests = λ e. both-and true true refl refl };
+        lagSums = subst (λ (n : ℕ). SumsSound g n (zeros (lags g))) (sym k) (none-banked g);
       })
 
   reset-fair : FairDeed slack w reset → Sound slack (resetStep (w .buffers) (wasReset slack (w .scan) (w .buffers .envelope) (w .buffers .lagSums)) .world)
@@ -325,8 +369,8 @@ module _ (slack : ℕ) (w : World) (s : Sound slack w) where
   unfolding called rearmed discarded
   deed-sound (near x index) f = near-sound x index f
   deed-sound score f = score-sound
-  deed-sound rearm f = clear-sound 0 newVerdict (omega arith) (lit< tt)
-  deed-sound discard f = clear-sound (w .scan .near .first) _ (s .near .first) (lit< tt)
+  deed-sound rearm f = clear-sound 0 newVerdict (omega arith) refl
+  deed-sound discard f = clear-sound (w .scan .near .first) _ (s .near .first) refl
   deed-sound reset f = reset-fair f
   deed-sound (ask r) f = s
 
@@ -357,7 +401,7 @@ fresh-sound slack g lent a =
           };
       near = cleared-sound g a 0 (lent .levels) (omega arith);
       verdict = record { banked = lit< tt; rests = λ e. both-and true true refl refl };
-      lagSums = length-zeros (lags g);
+      lagSums = none-banked g;
     }
 
 pub record Fresh (slack rate ceiling : ℕ) (w : World) : Type 0 where
