@@ -7,3 +7,4 @@ pub mod Sound
 pub mod Earlier
 pub mod Alike
 pub mod Forgets
+pub mod Healthy

@@ -1,0 +1,189 @@
+-- A stream's own state is never broken: every call keeps what `Sound` says, and that is more than `Healthy`.
+use Prim.Native.Nat.{ℕ}
+use mathlib.Core.Path.{_≡_, refl, sym, ap, _∙_, subst}
+use mathlib.Core.List.{List}
+use mathlib.Core.Bool.{Bool, true, false}
+use native.Mathlib.Omega.{arith}
+use lib.Dec.{eqb}
+use lib.Ieee.{Float}
+use lib.Ieee.Scale.{finite}
+use Rattle.answers.specs.Pick.{pick-true, pick-all, pick-case}
+use Rattle.answers.specs.Refusals.{none, unless, wrongLength, notFinite, tooLarge, frameWaits, noFullFrame}
+use Rattle.floats.proofs.Levels.{AtMost, at-most-finite}
+use Rattle.folds.specs.Sums.{allFinite}
+use Rattle.coarse.specs.State.{World, finished, due, firstRefusals}
+use Rattle.coarse.specs.Blocks.{dropped}
+use Rattle.coarse.specs.Scoring.{quiet, flat}
+use Rattle.coarse.specs.Calls.{FarPush, NearPush, Observation, Clearing, Restart, allLengths, isUncovered, isAhead, windowIn, readable, farRefusal, pushedFar, nearRefusal, pushedNear, scoreRefusal, counted, judged, scoredFrame, observed, clearRefusal, clearing, rearmed, discarded, resetRefusal, wasReset, reportRefusal, binSamples, ceilingSamples, regionOf, beyondCeiling, isFinished, isExhausted, framesOf, correlationOf}
+use Rattle.coarse.specs.Steps
+use Rattle.coarse.specs.Steps.{Report, «bin_samples», «ceiling_samples», region, «beyond_ceiling», frames, correlation, exhausted, Deed, near, score, rearm, discard, reset, ask, Call, far, deed, refusalOf, changes, takes, scores, reportsRegion, reportsFlag, reportsCount, reportsLevel, reportsSamples, reported, called}
+use Rattle.coarse.specs.Streams.{Item, after, Fair, Began}
+use Rattle.coarse.specs.Health.{Healthy, StaysHealthy, NeverBroken, NeverUnreadable}
+use Rattle.coarse.specs.declared.Scan.{Scan}
+use Rattle.coarse.specs.declared.Taking.{Taking}
+use Rattle.coarse.proofs.Laws.{unless-case, both-and, either-or, all-finite}
+use Rattle.coarse.proofs.Settings.{allowed}
+use Rattle.coarse.proofs.Sizes.{Size, size-finite}
+use Rattle.coarse.proofs.Sound.{Sound, rules-hold, first-refusals, window-small, fresh-sound, began}
+use Rattle.coarse.proofs.Earlier.{passes}
+
+pub stays-sound : (slack rate ceiling : ℕ) (w : World) (items : List Item) → Began slack rate ceiling w → Fair slack w items → Sound slack (after slack w items)
+stays-sound slack rate ceiling w items b f =
+    let o = began slack rate ceiling w b in
+    passes slack items w (subst (Sound slack) (sym (o .is)) (fresh-sound slack _ (w .buffers) (allowed rate ceiling (o .inside)))) f .0
+
+module _ (slack : ℕ) (w : World) (s : Sound slack w) where
+  healthy : Healthy w
+  healthy =
+      record {
+        rules = rules-hold slack w s;
+        farSum = at-most-finite (w .scan .far .count) (w .scan .far .sum) (s .far .heard .sum);
+        nearSum = at-most-finite (w .scan .near .count) (w .scan .near .sum) (s .near .sum);
+        farLevels = all-finite (AtMost 1) (w .buffers .envelope) (at-most-finite 1) (s .far .heard .levels);
+        nearLevels = all-finite (AtMost 1) _ (at-most-finite 1) (s .near .levels);
+        lagSums = all-finite (Size (w .scan .verdict .banked) 323) (w .buffers .lagSums) (size-finite (w .scan .verdict .banked) 323) (s .lagSums .sizes);
+      }
+
+-- ---- the refusal number of every call
+
+-- n is the refusal number of what is answered
+record Numbered {A : Type 0} (number : A → ℕ) (n : ℕ) (x : A) : Type 0 where
+  is : number x ≡ n
+
+-- a call answers its refusal number, or something that is no refusal
+numbered : {A : Type 0} (number : A → ℕ) (n : ℕ) (x y : A) → number x ≡ n → number y ≡ none → Numbered number n (unless n x y)
+numbered number n x y e h = unless-case (Numbered number n) n x y (λ r. record { is = e }) (λ z. record { is = h ∙ sym z })
+
+bin-number : (s : Scan) → Numbered (λ a. refusalOf (reportsSamples a)) (reportRefusal s) (binSamples s)
+unfolding binSamples
+bin-number s = numbered _ (reportRefusal s) _ _ refl refl
+
+ceiling-number : (s : Scan) → Numbered (λ a. refusalOf (reportsSamples a)) (reportRefusal s) (ceilingSamples s)
+unfolding ceilingSamples
+ceiling-number s = numbered _ (reportRefusal s) _ _ refl refl
+
+region-number : (s : Scan) → Numbered (λ a. refusalOf (reportsRegion a)) (reportRefusal s) (regionOf s)
+unfolding regionOf
+region-number s = numbered _ (reportRefusal s) _ _ refl refl
+
+beyond-number : (s : Scan) → Numbered (λ a. refusalOf (reportsFlag a)) (reportRefusal s) (beyondCeiling s)
+unfolding beyondCeiling
+beyond-number s = numbered _ (reportRefusal s) _ _ refl refl
+
+frames-number : (s : Scan) → Numbered (λ a. refusalOf (reportsCount a)) (reportRefusal s) (framesOf s)
+unfolding framesOf
+frames-number s = numbered _ (reportRefusal s) _ _ refl refl
+
+correlation-number : (s : Scan) → Numbered (λ a. refusalOf (reportsLevel a)) (reportRefusal s) (correlationOf s)
+unfolding correlationOf
+correlation-number s = numbered _ (reportRefusal s) _ _ refl refl
+
+finished-number : (s : Scan) → Numbered (λ a. refusalOf (reportsFlag a)) (reportRefusal s) (isFinished s)
+unfolding isFinished
+finished-number s = numbered _ (reportRefusal s) _ _ refl refl
+
+exhausted-number : (s : Scan) → Numbered (λ a. refusalOf (reportsFlag a)) (reportRefusal s) (isExhausted s)
+unfolding isExhausted
+exhausted-number s = numbered _ (reportRefusal s) _ _ refl refl
+
+-- the refusal number of each report
+report-number : (s : Scan) (r : Report) → refusalOf (reported s r) ≡ reportRefusal s
+report-number s «bin_samples» = bin-number s .is
+report-number s «ceiling_samples» = ceiling-number s .is
+report-number s region = region-number s .is
+report-number s «beyond_ceiling» = beyond-number s .is
+report-number s frames = frames-number s .is
+report-number s correlation = correlation-number s .is
+report-number s Steps.finished = finished-number s .is
+report-number s exhausted = exhausted-number s .is
+
+-- and of each call
+module _ (slack : ℕ) (w : World) where
+  far-number : (xs : List Float) → Numbered (λ p. refusalOf (changes (p .changed .answer))) (farRefusal slack (w .scan) (w .buffers .envelope) xs) (pushedFar slack (w .scan) (w .buffers .envelope) xs)
+  unfolding pushedFar
+  far-number xs = numbered _ (farRefusal slack (w .scan) (w .buffers .envelope) xs) _ _ refl refl
+
+  near-number : (x : Float) (index : ℕ) → Numbered (λ p. refusalOf (takes (p .took .answer))) (nearRefusal (w .scan) (w .buffers .levels) x index) (pushedNear (w .scan) (w .buffers .levels) x index)
+  unfolding pushedNear
+  near-number x index =
+      numbered _ (nearRefusal (w .scan) (w .buffers .levels) x index) _ _ refl
+      (pick-case P (finished (w .scan .verdict)) _ _ (λ f. record { is = refl })
+      (λ f. pick-case P (dropped (w .scan .geometry) (w .scan .near) index) _ _ (λ d. record { is = refl }) (λ d. record { is = pick-case (λ (a : Taking). refusalOf (takes a) ≡ none) _ _ _ (λ t. refl) (λ t. refl) })) .is)
+    where
+      P : NearPush → Type 0
+      P = Numbered (λ p. refusalOf (takes (p .took .answer))) none
+
+  score-number : Numbered (λ p. refusalOf (scores (p .scored .answer))) (scoreRefusal slack w) (observed slack w)
+  unfolding observed scoredFrame judged counted
+  score-number =
+      numbered _ (scoreRefusal slack w) _ _ refl
+      (pick-case P (isUncovered slack w) _ _ (λ t. record { is = refl })
+      (λ t. pick-case P (isAhead w) _ _ (λ t. record { is = refl }) (λ t. pick-case P (quiet _) _ _ (λ t. record { is = refl }) (λ t. pick-case P (flat _) _ _ (λ t. record { is = refl }) (λ t. record { is = refl })))) .is)
+    where
+      P : Observation → Type 0
+      P = Numbered (λ p. refusalOf (scores (p .scored .answer))) none
+
+  rearm-number : Numbered (λ p. refusalOf (changes (p .changed .answer))) (clearRefusal (w .scan) (w .buffers .lagSums)) (rearmed (w .scan) (w .buffers .lagSums))
+  unfolding rearmed
+  rearm-number = numbered _ (clearRefusal (w .scan) (w .buffers .lagSums)) _ _ refl refl
+
+  discard-number : Numbered (λ p. refusalOf (changes (p .changed .answer))) (clearRefusal (w .scan) (w .buffers .lagSums)) (discarded (w .scan) (w .buffers .lagSums))
+  unfolding discarded
+  discard-number = numbered _ (clearRefusal (w .scan) (w .buffers .lagSums)) _ _ refl refl
+
+  reset-number : Numbered (λ p. refusalOf (changes (p .changed .answer))) (resetRefusal slack (w .scan) (w .buffers .envelope) (w .buffers .lagSums)) (wasReset slack (w .scan) (w .buffers .envelope) (w .buffers .lagSums))
+  unfolding wasReset
+  reset-number = numbered _ (resetRefusal slack (w .scan) (w .buffers .envelope) (w .buffers .lagSums)) _ _ refl refl
+
+-- ---- refusals 1 and 3
+
+abbrev Fine : ℕ → Type 0
+Fine n = (n ≡ 1 → ⊥) × (n ≡ 3 → ⊥)
+
+module _ (slack : ℕ) (w : World) (s : Sound slack w) where
+  first-fine : (lengths : Bool) → Fine (firstRefusals (w .scan) lengths)
+  first-fine lengths = subst Fine (sym (first-refusals slack w s lengths)) (pick-all Fine lengths none wrongLength (omega arith) (omega arith))
+
+  fine : (c : Call) → Fine (refusalOf (called slack w c .response))
+  unfolding called
+  fine (far xs) = subst Fine (sym (far-number slack w xs .is)) (unfold farRefusal in pick-all Fine _ _ _ (pick-all Fine _ _ tooLarge (pick-all Fine _ none notFinite (omega arith) (omega arith)) (omega arith)) (first-fine _))
+  fine (deed (near x index)) =
+      subst Fine (sym (near-number slack w x index .is)) (unfold nearRefusal in
+      pick-all Fine _ _ _
+      (pick-all Fine _ none _ (omega arith) (pick-all Fine _ _ frameWaits (pick-all Fine _ _ tooLarge (pick-all Fine _ none notFinite (omega arith) (omega arith)) (omega arith)) (omega arith)))
+      (first-fine _))
+  fine (deed score) =
+      subst Fine (sym (score-number slack w .is)) (unfold scoreRefusal in pick-all Fine _ _ _ (pick-all Fine _ _ noFullFrame (pick-all Fine _ none notFinite (omega arith) (omega arith)) (omega arith)) (first-fine _))
+  fine (deed rearm) = subst Fine (sym (rearm-number slack w .is)) (unfold clearRefusal in first-fine _)
+  fine (deed discard) = subst Fine (sym (discard-number slack w .is)) (unfold clearRefusal in first-fine _)
+  fine (deed reset) = subst Fine (sym (reset-number slack w .is)) (unfold resetRefusal in first-fine _)
+  fine (deed (ask r)) = subst Fine (sym (report-number (w .scan) r)) (unfold reportRefusal in first-fine true)
+
+  -- ---- refusal 4, of a frame
+
+  readable-frame : readable slack w ≡ true
+  readable-frame =
+      let h = healthy slack w s in
+      both-and _ _ (h .nearLevels) (both-and _ _ (all-finite (AtMost 1) (windowIn slack w) (at-most-finite 1) (window-small slack w s)) (h .lagSums))
+
+  abbrev Reads : ℕ → Type 0
+  Reads n = n ≡ notFinite → ⊥
+
+  reads : Reads (refusalOf (called slack w (deed score) .response))
+  unfolding called
+  reads =
+      subst Reads (sym (score-number slack w .is)) (unfold scoreRefusal in
+      pick-all Reads _ _ _
+      (pick-all Reads _ _ noFullFrame (subst Reads (sym (pick-true _ none notFinite (either-or (isUncovered slack w) _ (λ u. either-or (isAhead w) _ (λ t. readable-frame))))) (omega arith)) (omega arith))
+      (subst Reads (sym (first-refusals slack w s _)) (pick-all Reads _ none wrongLength (omega arith) (omega arith))))
+
+-- ---- the statements
+
+pub stays-healthy : StaysHealthy
+stays-healthy slack rate ceiling w items b f = healthy slack (after slack w items) (stays-sound slack rate ceiling w items b f)
+
+pub never-broken : NeverBroken
+never-broken slack rate ceiling w items b f c = fine slack (after slack w items) (stays-sound slack rate ceiling w items b f) c
+
+pub never-unreadable : NeverUnreadable
+never-unreadable slack rate ceiling w items b f = reads slack (after slack w items) (stays-sound slack rate ceiling w items b f)
