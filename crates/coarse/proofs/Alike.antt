@@ -1,43 +1,43 @@
 -- Two worlds that agree on all that a frame may read from a block on: every call answers alike in both, and leaves them alike.
-use Prim.Native.Nat.{ℕ, zero, suc, _+_, _-_, _*_, _/_, _%_, _≤_, _<_, min}
+use Prim.Native.Nat.{ℕ, suc, _+_, _-_, _*_, _≤_, _<_, min}
 use mathlib.Core.Path.{_≡_, refl, sym, ap, ap₂, _∙_, subst, subst₂}
-use mathlib.Core.Logic.{_≢_, _⊎_, inl, inr}
+use mathlib.Core.Logic.{_⊎_, inl, inr}
 use mathlib.Core.List.{List, [], _∷_, _++_}
 use mathlib.Core.Bool.{Bool, true, false, not, true≢false}
 use native.Mathlib.Nat.{le-div-iff-mul-le, eq-or-lt-of-le}
 use native.Mathlib.Omega.{arith}
-use lib.Dec.{T, leb, ltb, eqb}
+use lib.Dec.{T, ltb, eqb}
 use lib.ListN.{length, set, take, drop, length-set, length-append, length-take, length-drop, take-append-drop}
 use lib.Seq.{getD-set-other}
 use lib.Ieee.{Float, nan, binary32, fits}
 use lib.Ieee.Fits.{nan-fits}
 use lib.Ieee.Scale.{finite}
-use borrow.Author.Tests.{ltb-true, ltb-false, eqb-true, eqb-false, ne-eqb, not-true, not-false}
-use Rattle.answers.specs.Pick.{pick, both, either, pick-true, pick-false, pick-case}
-use Rattle.answers.specs.Refusals.{require, before, none, notFinite, noFullFrame, tooLarge, wrongLength}
-use Rattle.answers.specs.Numbers.{limit}
+use borrow.Author.Tests.{ltb-true, ltb-false, eqb-true, ne-eqb, not-false}
+use Rattle.answers.specs.Pick.{pick, both, pick-true, pick-case}
+use Rattle.answers.specs.Refusals.{require, before, none, notFinite, wrongLength}
 use Rattle.floats.specs.Functions.{zero64}
 use Rattle.folds.specs.Sums.{zeros, table, at, allFinite, prefixSums, prefixSquares}
-use Rattle.coarse.specs.Bins.{envelopeLen, windowLen, lags}
-use Rattle.coarse.specs.State.{Buffers, World, finished, full, idle, due, firstRefusals, keepsRules}
-use Rattle.coarse.specs.Blocks.{Heard, hearAll, Seen, gather, dropped, onGrid, firstBin, summed, levelOf}
+use Rattle.coarse.specs.Bins.{envelopeLen, windowLen}
+use Rattle.coarse.specs.State.{Buffers, World, finished, full, idle, due, firstRefusals}
+use Rattle.coarse.specs.Blocks.{hearAll, Seen, gather, dropped, onGrid, firstBin, summed, levelOf}
 use Rattle.coarse.specs.Scoring.{uncovered, windowOf, binAt, quiet, flat, scoresOf}
-use Rattle.coarse.specs.Calls.{Observation, FarPush, NearPush, Clearing, Restart, allLengths, frameOf, windowIn, isUncovered, isAhead, readable, consumed, withNearVerdict, farRefusal, pushedFar, nearRefusal, pushedNear, scoreRefusal, counted, judged, scoredFrame, observed, takenBy, clearing, clearRefusal, rearmed, discarded, resetRefusal, wasReset, reportRefusal, binSamples, ceilingSamples, regionOf, beyondCeiling, isFinished, isExhausted, framesOf, correlationOf}
+use Rattle.coarse.specs.Calls.{Observation, FarPush, NearPush, Clearing, Restart, allLengths, frameOf, windowIn, isUncovered, isAhead, consumed, withNearVerdict, farRefusal, pushedFar, nearRefusal, pushedNear, scoreRefusal, counted, judged, scoredFrame, observed, takenBy, clearing, clearRefusal, rearmed, discarded, resetRefusal, wasReset, reportRefusal, binSamples, ceilingSamples, regionOf, beyondCeiling, isFinished, isExhausted, framesOf, correlationOf}
 use Rattle.coarse.specs.Steps
 use Rattle.coarse.specs.Steps.{Report, «bin_samples», «ceiling_samples», region, «beyond_ceiling», frames, correlation, exhausted, Deed, near, score, rearm, discard, reset, ask, Call, far, deed, Response, refusalOf, changes, takes, Step, step, withLagSums, reported, called}
-use Rattle.coarse.specs.Streams.{begins, AllF32, FairDeed, FairCall, LateDeed, LateCall, Fair, Late, Item, own, foreign, answers, cleanAnswers, cleaned, accepted, Lengths, lengthsOf, CleanCall, push, does, asCall, unheard, cleanCall}
+use Rattle.coarse.specs.Streams.{begins, AllF32, FairDeed, FairCall, LateDeed, LateCall, Fair, Late, Item, own, foreign, answers, cleanAnswers, cleaned, accepted, Lengths, lengthsOf, asCall, unheard, cleanCall}
 use Rattle.coarse.specs.declared.Geometry.{Geometry}
-use Rattle.coarse.specs.declared.Far.{Far}
 use Rattle.coarse.specs.declared.Near.{Near}
 use Rattle.coarse.specs.declared.Verdict.{Verdict}
-use Rattle.coarse.specs.declared.Scan.{Scan}
 use Rattle.coarse.specs.declared.Taking.{Taking}
 use Rattle.coarse.specs.declared.Taking.the-variants as taking
-use Rattle.coarse.proofs.Laws.{pick-both, unless-case, unless-both, is-true, holds, either-right, both-fails, both-and, both-left, both-right, stored-alike, take-alike, length-table, length-zeros, table-alike, table-front, all-zeros, all-finite, finite-append}
-use Rattle.coarse.proofs.Settings.{Allowed, some, wide}
-use Rattle.coarse.proofs.Hears.{withSum, HeardAlike, hears-all, muted, f32-append, f32-table, f32-drop}
+use Rattle.coarse.proofs.Laws.{pick-both, unless-case, unless-both, holds, either-right, both-fails, both-and, both-left, stored-alike, take-alike, length-table, length-zeros, table-alike, table-front, all-zeros, all-finite, finite-append}
+use Rattle.coarse.proofs.Settings.{some, wide}
+use Rattle.coarse.proofs.Hears.{withSum, HeardAlike, hears-all, f32-append, f32-table, f32-drop}
 use Rattle.coarse.proofs.Earlier.{call-passes}
-use Rattle.coarse.proofs.Sound.{heardIn, seenIn, Sound, first-refusals, FarTaken, far-taken, Scoreable, scoreable, farStep, nearStep, scoreStep, clearStep, resetStep, called-sound}
+use Rattle.coarse.proofs.Sound.{heardIn, seenIn, Sound, first-refusals}
+use Rattle.coarse.proofs.Accepted.{far-taken, scoreable}
+use Rattle.coarse.proofs.Contracts.{farStep, nearStep, scoreStep, clearStep, resetStep}
+use Rattle.coarse.proofs.Keeps.{called-sound}
 
 -- what the near side may read: the frame's levels, and a frame that began late enough
 pub record SeenAlike (least : ℕ) (t u : Seen) : Type 0 where
@@ -71,11 +71,12 @@ is-other slack block w v h =
       buffers = withLagSums (v .buffers) (h .lagSums i);
     }
 
--- ---- samples that nobody may look at
+-- a frame that is not uncovered has a window of bins that are kept
+covered : (slack : ℕ) (g : Geometry) (next s : ℕ) → uncovered slack g next s ≡ false → next ≤ s - g .span + envelopeLen slack g
+unfolding uncovered
+covered slack g next s u = omega (arith, ltb-false (s - g .span) (next - envelopeLen slack g) (either-right (ltb s (g .span)) _ u))
 
-length-unheard : (n : ℕ) (fine : Bool) → length (unheard n fine) ≡ n
-length-unheard n true = length-zeros n
-length-unheard n false = length-table _ n
+-- ---- samples that nobody may look at
 
 -- they are finite where those in whose place they stand are
 unheard-finite : (xs : List Float) → allFinite (unheard (length xs) (allFinite xs)) ≡ allFinite xs
@@ -85,6 +86,10 @@ unheard-finite (x ∷ xs) = go (allFinite (x ∷ xs))
     go : (fine : Bool) → allFinite (unheard (suc (length xs)) fine) ≡ fine
     go true = all-finite (λ z. finite z ≡ true) _ (λ z e. e) (all-zeros _ (suc (length xs)) refl)
     go false = ap allFinite (table-front nan (length xs)) ∙ (unfold allFinite pick in refl)
+
+length-unheard : (n : ℕ) (fine : Bool) → length (unheard n fine) ≡ n
+length-unheard n true = length-zeros n
+length-unheard n false = length-table _ n
 
 pub unheard-f32 : (n : ℕ) (fine : Bool) → AllF32 (unheard n fine)
 unheard-f32 n true = (unfold zeros in f32-table zero64 n (unfold fits in tt))
@@ -121,20 +126,13 @@ module _ (slack block : ℕ) (w : World) (sum : Float) (b : Buffers) (h : Alike 
   under-way : full g (w .scan .near) ≡ true → idle (w .scan .near) ≡ false
   under-way f = let e = eqb-true (w .scan .near .len) (g .frame) f in both-fails (eqb (w .scan .near .count) 0) (eqb (w .scan .near .len) 0) (ne-eqb (w .scan .near .len) 0 (omega (arith, wide g (s .allowed))))
 
+  -- a bin that is kept, from the block on
+  bin-same : (j : ℕ) → block ≤ j → w .scan .far .next ≤ j + envelopeLen slack g → binAt slack g (w .scan .far .next) (b .envelope) j ≡ binAt slack g (w .scan .far .next) (w .buffers .envelope) j
+  bin-same j l c = pick-both (λ (x y : Float). x ≡ y) (ltb j (w .scan .far .next)) _ _ _ _ (λ t. h .heard .bins j l (ltb-true j (w .scan .far .next) t) c) (λ t. refl)
+
   window-same : full g (w .scan .near) ≡ true → isUncovered slack w ≡ false → windowIn slack v ≡ windowIn slack w
-  unfolding windowOf uncovered
-  window-same f u = table-alike _ _ (windowLen g) at-offset
-    where
-      l : block + g .span ≤ w .scan .near .first
-      l = h .seen .first (under-way f)
-
-      c : w .scan .far .next - envelopeLen slack g ≤ w .scan .near .first - g .span
-      c = ltb-false (w .scan .near .first - g .span) (w .scan .far .next - envelopeLen slack g) (either-right (ltb (w .scan .near .first) (g .span)) _ u)
-
-      at-offset : (i : ℕ) → binAt slack g (w .scan .far .next) (b .envelope) (w .scan .near .first - g .span + i) ≡ binAt slack g (w .scan .far .next) (w .buffers .envelope) (w .scan .near .first - g .span + i)
-      at-offset i =
-          let j = w .scan .near .first - g .span + i in
-          pick-both (λ (x y : Float). x ≡ y) (ltb j (w .scan .far .next)) _ _ _ _ (λ t. h .heard .bins j (omega (arith, l)) (ltb-true j (w .scan .far .next) t) (omega (arith, c))) (λ t. refl)
+  unfolding windowOf
+  window-same f u = table-alike _ _ (windowLen g) (λ i. bin-same _ (omega (arith, h .seen .first (under-way f))) (omega (arith, covered slack g (w .scan .far .next) (w .scan .near .first) u)))
 
   -- ---- refusals
 

@@ -1,28 +1,31 @@
 -- The calls before the rearm: the far side is made by the accepted far samples alone, and every buffer keeps its length.
-use Prim.Native.Nat.{ℕ, _+_, _≤_}
+use Prim.Native.Nat.{ℕ, _+_}
 use mathlib.Core.Path.{_≡_, refl, sym, ap, _∙_, subst}
 use mathlib.Core.List.{List, [], _∷_, _++_}
-use mathlib.Core.Bool.{Bool, true, false}
+use mathlib.Core.Bool.{true}
 use native.Mathlib.Omega.{arith}
-use lib.Dec.{T, ltb, eqb}
+use lib.Dec.{eqb}
 use lib.ListN.{length, length-set}
 use lib.Ieee.{Float}
 use borrow.Author.Tests.{eqb-true, ne-eqb}
-use Rattle.answers.specs.Pick.{pick, both, pick-true, pick-false, pick-case}
+use Rattle.answers.specs.Pick.{pick, pick-true, pick-false, pick-case}
 use Rattle.answers.specs.Refusals.{none}
-use Rattle.folds.specs.Sums.{allFinite, zeros, prefixSums, prefixSquares}
+use Rattle.folds.specs.Sums.{allFinite, prefixSums, prefixSquares}
 use Rattle.coarse.specs.Bins.{envelopeLen, nearLen, windowLen, prefixLen, lags}
-use Rattle.coarse.specs.State.{Buffers, World, finished, due}
+use Rattle.coarse.specs.State.{World, finished}
 use Rattle.coarse.specs.Blocks.{Heard, hearAll, Seen, gather, dropped}
-use Rattle.coarse.specs.Scoring.{windowOf, quiet, flat, Ruling, ruling, scoresOf}
-use Rattle.coarse.specs.Calls.{Observation, FarPush, NearPush, Clearing, Restart, allLengths, frameOf, windowIn, isUncovered, isAhead, countedBy, clearing, farRefusal, pushedFar, nearRefusal, pushedNear, scoreRefusal, counted, judged, scoredFrame, observed, clearRefusal, rearmed, discarded, resetRefusal, wasReset}
+use Rattle.coarse.specs.Scoring.{windowOf, quiet, flat, scoresOf}
+use Rattle.coarse.specs.Calls.{Observation, FarPush, NearPush, Clearing, Restart, allLengths, frameOf, windowIn, isUncovered, isAhead, clearing, farRefusal, pushedFar, nearRefusal, pushedNear, scoreRefusal, counted, judged, scoredFrame, observed, clearRefusal, rearmed, discarded, resetRefusal, wasReset}
 use Rattle.coarse.specs.Steps.{Deed, near, score, rearm, discard, reset, ask, Call, far, deed, refusalOf, changes, called}
 use Rattle.coarse.specs.Streams.{Item, own, foreign, after, heard, broughtBy, AllF32, FairDeed, FairCall, Fair, Lengths, lengthsOf}
 use Rattle.coarse.specs.declared.Geometry.{Geometry}
 use Rattle.coarse.specs.declared.Scan.{Scan}
 use Rattle.coarse.proofs.Laws.{unless-case, both-and, both-left, both-right, length-table, finite-append}
 use Rattle.coarse.proofs.Hears.{hearAll-append, f32-append}
-use Rattle.coarse.proofs.Sound.{heardIn, Sound, Scoreable, scoreable, far-taken, farStep, nearStep, scoreStep, clearStep, resetStep, called-sound}
+use Rattle.coarse.proofs.Sound.{heardIn, Sound}
+use Rattle.coarse.proofs.Accepted.{scoreable, far-taken}
+use Rattle.coarse.proofs.Contracts.{farStep, nearStep, scoreStep, clearStep, resetStep}
+use Rattle.coarse.proofs.Keeps.{called-sound}
 
 -- from w to v, with these far samples accepted on the way
 pub record Passed (slack : ℕ) (w v : World) (xs : List Float) : Type 0 where

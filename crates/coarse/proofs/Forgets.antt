@@ -1,29 +1,31 @@
 -- Demand 3: a rearmed coarse scan forgets damage.
-use Prim.Native.Nat.{ℕ, zero, suc, _+_, _-_, _*_, _≤_, min}
-use mathlib.Core.Path.{_≡_, refl, sym, ap, ap₂, _∙_, subst, subst₂}
-use mathlib.Core.List.{List, [], _∷_, _++_}
-use mathlib.Core.Bool.{Bool, true, false, true≢false}
+use Prim.Native.Nat.{ℕ, _+_, _-_, _*_, _≤_, min}
+use mathlib.Core.Path.{_≡_, refl, sym, ap, _∙_, subst, subst₂}
+use mathlib.Core.List.{List}
+use mathlib.Core.Bool.{true, true≢false}
 use native.Mathlib.Omega.{arith}
-use lib.Dec.{T, leb, eqb}
-use lib.ListN.{length, take, drop, length-append, length-take, length-drop, take-append-drop}
+use lib.Dec.{leb, eqb}
+use lib.ListN.{length, take, drop, length-append, length-drop, take-append-drop}
 use lib.Ieee.{Float}
 use borrow.Author.Tests.{eq-eqb, le-leb}
-use Rattle.answers.specs.Pick.{pick, both, pick-true}
-use Rattle.answers.specs.Refusals.{require, none}
+use Rattle.answers.specs.Pick.{pick, pick-true}
+use Rattle.answers.specs.Refusals.{none}
 use Rattle.answers.specs.Numbers.{limit}
 use Rattle.folds.specs.Sums.{zeros, allFinite}
-use Rattle.coarse.specs.Bins.{inTable, geometryOf, decimationOf, envelopeLen, lags}
-use Rattle.coarse.specs.State.{Buffers, World, newFar, newNear, newVerdict, newScan, due}
+use Rattle.coarse.specs.Bins.{inTable, geometryOf, envelopeLen, lags}
+use Rattle.coarse.specs.State.{Buffers, World, newFar, newScan, due}
 use Rattle.coarse.specs.Blocks.{Heard, hearAll}
 use Rattle.coarse.specs.Calls.{Clearing, FarPush, Restart, withFar, made, makingRefusal, restartLengths, farRefusal, pushedFar, clearRefusal, rearmed}
-use Rattle.coarse.specs.Steps.{Call, far, deed, rearm, refusalOf, changes, Step, withEnvelope, withLagSums, called, making}
-use Rattle.coarse.specs.Streams.{Item, Fair, Late, accepted, AllF32, after, answers, heard, Stream, resumed, answersSince, factsOf, Forgets, ForgetsTwo, Facts, CleanCall, fromTheseAlone, cleanWorld, cleanAnswers, cleaned, Lengths, lengthsOf, zeroBuffers, firstKnown, earlyOf, lateOf}
+use Rattle.coarse.specs.Steps.{far, deed, rearm, refusalOf, changes, withEnvelope, called, making}
+use Rattle.coarse.specs.Streams.{Item, accepted, AllF32, after, heard, Stream, resumed, answersSince, factsOf, Forgets, ForgetsTwo, Facts, CleanCall, fromTheseAlone, cleanWorld, cleaned, Lengths, lengthsOf, zeroBuffers, firstKnown}
 use Rattle.coarse.specs.declared.Geometry.{Geometry}
-use Rattle.coarse.specs.declared.Far.{Far}
 use Rattle.coarse.proofs.Laws.{unless-case, both-and, both-right, length-zeros, all-zeros, all-finite, finite-append}
-use Rattle.coarse.proofs.Settings.{Allowed, allowed}
-use Rattle.coarse.proofs.Hears.{HeardSound, hearAll-accepted, HeardAlike, hears-all, muted, f32-append, f32-drop}
-use Rattle.coarse.proofs.Sound.{heardIn, Sound, first-refusals, farStep, clearStep, resetStep, fresh, fresh-sound, Fresh, began, called-sound}
+use Rattle.coarse.proofs.Settings.{allowed}
+use Rattle.coarse.proofs.Hears.{hearAll-accepted, HeardAlike, hears-all, muted, f32-append, f32-drop}
+use Rattle.coarse.proofs.Sound.{heardIn, Sound, first-refusals}
+use Rattle.coarse.proofs.Contracts.{farStep, clearStep, resetStep}
+use Rattle.coarse.proofs.Fresh.{fresh, fresh-sound, began}
+use Rattle.coarse.proofs.Keeps.{called-sound}
 use Rattle.coarse.proofs.Earlier.{Passed, call-passes, passes}
 use Rattle.coarse.proofs.Alike.{Alike, unheard-f32, answers-alike}
 

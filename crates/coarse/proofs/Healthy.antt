@@ -1,30 +1,28 @@
 -- A stream's own state is never broken: every call keeps what `Sound` says, and that is more than `Healthy`.
 use Prim.Native.Nat.{ℕ}
-use mathlib.Core.Path.{_≡_, refl, sym, ap, _∙_, subst}
+use mathlib.Core.Path.{_≡_, refl, sym, _∙_, subst}
 use mathlib.Core.List.{List}
-use mathlib.Core.Bool.{Bool, true, false}
+use mathlib.Core.Bool.{Bool, true}
 use native.Mathlib.Omega.{arith}
-use lib.Dec.{eqb}
 use lib.Ieee.{Float}
-use lib.Ieee.Scale.{finite}
-use Rattle.answers.specs.Pick.{pick-true, pick-all, pick-case}
+use Rattle.answers.specs.Pick.{pick, pick-true, pick-all, pick-case}
 use Rattle.answers.specs.Refusals.{none, unless, wrongLength, notFinite, tooLarge, frameWaits, noFullFrame}
 use Rattle.floats.proofs.Levels.{AtMost, at-most-finite}
-use Rattle.folds.specs.Sums.{allFinite}
-use Rattle.coarse.specs.State.{World, finished, due, firstRefusals}
+use Rattle.coarse.specs.State.{World, finished, firstRefusals}
 use Rattle.coarse.specs.Blocks.{dropped}
 use Rattle.coarse.specs.Scoring.{quiet, flat}
-use Rattle.coarse.specs.Calls.{FarPush, NearPush, Observation, Clearing, Restart, allLengths, isUncovered, isAhead, windowIn, readable, farRefusal, pushedFar, nearRefusal, pushedNear, scoreRefusal, counted, judged, scoredFrame, observed, clearRefusal, clearing, rearmed, discarded, resetRefusal, wasReset, reportRefusal, binSamples, ceilingSamples, regionOf, beyondCeiling, isFinished, isExhausted, framesOf, correlationOf}
+use Rattle.coarse.specs.Calls.{NearPush, Observation, isUncovered, isAhead, windowIn, readable, farRefusal, pushedFar, nearRefusal, pushedNear, scoreRefusal, counted, judged, scoredFrame, observed, clearRefusal, rearmed, discarded, resetRefusal, wasReset, reportRefusal, binSamples, ceilingSamples, regionOf, beyondCeiling, isFinished, isExhausted, framesOf, correlationOf}
 use Rattle.coarse.specs.Steps
-use Rattle.coarse.specs.Steps.{Report, «bin_samples», «ceiling_samples», region, «beyond_ceiling», frames, correlation, exhausted, Deed, near, score, rearm, discard, reset, ask, Call, far, deed, refusalOf, changes, takes, scores, reportsRegion, reportsFlag, reportsCount, reportsLevel, reportsSamples, reported, called}
+use Rattle.coarse.specs.Steps.{Report, «bin_samples», «ceiling_samples», region, «beyond_ceiling», frames, correlation, exhausted, near, score, rearm, discard, reset, ask, Call, far, deed, refusalOf, changes, takes, scores, reported, called}
 use Rattle.coarse.specs.Streams.{Item, after, Fair, Began}
 use Rattle.coarse.specs.Health.{Healthy, StaysHealthy, NeverBroken, NeverUnreadable}
-use Rattle.coarse.specs.declared.Scan.{Scan}
 use Rattle.coarse.specs.declared.Taking.{Taking}
 use Rattle.coarse.proofs.Laws.{unless-case, both-and, either-or, all-finite}
 use Rattle.coarse.proofs.Settings.{allowed}
 use Rattle.coarse.proofs.Sizes.{Size, size-finite}
-use Rattle.coarse.proofs.Sound.{Sound, rules-hold, first-refusals, window-small, fresh-sound, began}
+use Rattle.coarse.proofs.Sound.{Sound, rules-hold, first-refusals}
+use Rattle.coarse.proofs.Keeps.{window-small}
+use Rattle.coarse.proofs.Fresh.{fresh-sound, began}
 use Rattle.coarse.proofs.Earlier.{passes}
 
 pub stays-sound : (slack rate ceiling : ℕ) (w : World) (items : List Item) → Began slack rate ceiling w → Fair slack w items → Sound slack (after slack w items)
@@ -54,50 +52,6 @@ record Numbered {A : Type 0} (number : A → ℕ) (n : ℕ) (x : A) : Type 0 whe
 numbered : {A : Type 0} (number : A → ℕ) (n : ℕ) (x y : A) → number x ≡ n → number y ≡ none → Numbered number n (unless n x y)
 numbered number n x y e h = unless-case (Numbered number n) n x y (λ r. record { is = e }) (λ z. record { is = h ∙ sym z })
 
-bin-number : (s : Scan) → Numbered (λ a. refusalOf (reportsSamples a)) (reportRefusal s) (binSamples s)
-unfolding binSamples
-bin-number s = numbered _ (reportRefusal s) _ _ refl refl
-
-ceiling-number : (s : Scan) → Numbered (λ a. refusalOf (reportsSamples a)) (reportRefusal s) (ceilingSamples s)
-unfolding ceilingSamples
-ceiling-number s = numbered _ (reportRefusal s) _ _ refl refl
-
-region-number : (s : Scan) → Numbered (λ a. refusalOf (reportsRegion a)) (reportRefusal s) (regionOf s)
-unfolding regionOf
-region-number s = numbered _ (reportRefusal s) _ _ refl refl
-
-beyond-number : (s : Scan) → Numbered (λ a. refusalOf (reportsFlag a)) (reportRefusal s) (beyondCeiling s)
-unfolding beyondCeiling
-beyond-number s = numbered _ (reportRefusal s) _ _ refl refl
-
-frames-number : (s : Scan) → Numbered (λ a. refusalOf (reportsCount a)) (reportRefusal s) (framesOf s)
-unfolding framesOf
-frames-number s = numbered _ (reportRefusal s) _ _ refl refl
-
-correlation-number : (s : Scan) → Numbered (λ a. refusalOf (reportsLevel a)) (reportRefusal s) (correlationOf s)
-unfolding correlationOf
-correlation-number s = numbered _ (reportRefusal s) _ _ refl refl
-
-finished-number : (s : Scan) → Numbered (λ a. refusalOf (reportsFlag a)) (reportRefusal s) (isFinished s)
-unfolding isFinished
-finished-number s = numbered _ (reportRefusal s) _ _ refl refl
-
-exhausted-number : (s : Scan) → Numbered (λ a. refusalOf (reportsFlag a)) (reportRefusal s) (isExhausted s)
-unfolding isExhausted
-exhausted-number s = numbered _ (reportRefusal s) _ _ refl refl
-
--- the refusal number of each report
-report-number : (s : Scan) (r : Report) → refusalOf (reported s r) ≡ reportRefusal s
-report-number s «bin_samples» = bin-number s .is
-report-number s «ceiling_samples» = ceiling-number s .is
-report-number s region = region-number s .is
-report-number s «beyond_ceiling» = beyond-number s .is
-report-number s frames = frames-number s .is
-report-number s correlation = correlation-number s .is
-report-number s Steps.finished = finished-number s .is
-report-number s exhausted = exhausted-number s .is
-
--- and of each call
 module _ (slack : ℕ) (w : World) where
   far-number : (xs : List Float) → Numbered (λ p. refusalOf (changes (p .changed .answer))) (farRefusal slack (w .scan) (w .buffers .envelope) xs) (pushedFar slack (w .scan) (w .buffers .envelope) xs)
   unfolding pushedFar
@@ -140,9 +94,27 @@ module _ (slack : ℕ) (w : World) where
 abbrev Fine : ℕ → Type 0
 Fine n = (n ≡ 1 → ⊥) × (n ≡ 3 → ⊥)
 
+none-fine : Fine none
+none-fine = omega arith
+
 module _ (slack : ℕ) (w : World) (s : Sound slack w) where
   first-fine : (lengths : Bool) → Fine (firstRefusals (w .scan) lengths)
   first-fine lengths = subst Fine (sym (first-refusals slack w s lengths)) (pick-all Fine lengths none wrongLength (omega arith) (omega arith))
+
+  unrefused : reportRefusal (w .scan) ≡ none
+  unfolding reportRefusal
+  unrefused = first-refusals slack w s true ∙ pick-true true none wrongLength refl
+
+  -- a report is lent no buffer, so that nothing is left to refuse
+  report-fine : (r : Report) → Fine (refusalOf (reported (w .scan) r))
+  report-fine «bin_samples» = (unfold binSamples pick in rw unrefused none-fine)
+  report-fine «ceiling_samples» = (unfold ceilingSamples pick in rw unrefused none-fine)
+  report-fine region = (unfold regionOf pick in rw unrefused none-fine)
+  report-fine «beyond_ceiling» = (unfold beyondCeiling pick in rw unrefused none-fine)
+  report-fine frames = (unfold framesOf pick in rw unrefused none-fine)
+  report-fine correlation = (unfold correlationOf pick in rw unrefused none-fine)
+  report-fine Steps.finished = (unfold isFinished pick in rw unrefused none-fine)
+  report-fine exhausted = (unfold isExhausted pick in rw unrefused none-fine)
 
   fine : (c : Call) → Fine (refusalOf (called slack w c .response))
   unfolding called
@@ -157,7 +129,7 @@ module _ (slack : ℕ) (w : World) (s : Sound slack w) where
   fine (deed rearm) = subst Fine (sym (rearm-number slack w .is)) (unfold clearRefusal in first-fine _)
   fine (deed discard) = subst Fine (sym (discard-number slack w .is)) (unfold clearRefusal in first-fine _)
   fine (deed reset) = subst Fine (sym (reset-number slack w .is)) (unfold resetRefusal in first-fine _)
-  fine (deed (ask r)) = subst Fine (sym (report-number (w .scan) r)) (unfold reportRefusal in first-fine true)
+  fine (deed (ask r)) = report-fine r
 
   -- ---- refusal 4, of a frame
 

@@ -1,6 +1,6 @@
 -- Laws of choices, tests, lists, tables and remainders.
-use Prim.Native.Nat.{ℕ, zero, suc, _+_, _-_, _*_, _/_, _%_, _≤_, _<_, min}
-use mathlib.Core.Path.{_≡_, refl, sym, ap, _∙_, subst}
+use Prim.Native.Nat.{ℕ, zero, suc, _+_, _*_, _/_, _%_, _≤_, _<_}
+use mathlib.Core.Path.{_≡_, refl, ap, _∙_}
 use mathlib.Core.Logic.{_≢_}
 use mathlib.Core.List.{List, [], _∷_, _++_}
 use mathlib.Core.Bool.{Bool, true, false, not, true≢false, false≢true}
@@ -8,12 +8,11 @@ use native.Mathlib.Nat.{div-add-mod', lt-of-mul-lt-mul-right, mul-le-mul-right, 
 use native.Mathlib.Numerals.{add-one}
 use native.Mathlib.Omega.{arith}
 use lib.Dec.{T, eqb}
-use lib.ListN.{length, set, getD, take, drop, length-append, length-take, length-drop}
-use lib.Seq.{getD-set-other}
-use lib.Ieee.{Float, nan}
+use lib.ListN.{length, set, take, length-append}
+use lib.Ieee.{Float}
 use lib.Ieee.Scale.{finite}
 use borrow.Author.Tests.{eqb-true, eqb-false}
-use Rattle.answers.specs.Pick.{pick, both, either, pick-true, pick-false, pick-case}
+use Rattle.answers.specs.Pick.{pick, both, either, pick-case}
 use Rattle.answers.specs.Refusals.{unless}
 use Rattle.floats.specs.Functions.{zero64}
 use Rattle.folds.specs.Sums.{table, zeros, at, allFinite}

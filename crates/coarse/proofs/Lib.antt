@@ -4,7 +4,11 @@ pub mod Sizes
 pub mod Scores
 pub mod Hears
 pub mod Sound
+pub mod Accepted
+pub mod Contracts
+pub mod Keeps
+pub mod Fresh
+pub mod Healthy
 pub mod Earlier
 pub mod Alike
 pub mod Forgets
-pub mod Healthy

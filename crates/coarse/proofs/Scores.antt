@@ -1,14 +1,14 @@
 -- The scores of a frame whose levels are f32 levels: each is at most 2 ^ 323 in size, so that a sum of four is finite.
 use Prim.Native.Nat.{ℕ, _+_, _≤_, _<_}
-use mathlib.Core.Path.{_≡_, refl, sym, ap, _∙_, subst}
+use mathlib.Core.Path.{_≡_}
 use mathlib.Core.List.{List}
-use mathlib.Core.Bool.{Bool, true, false}
+use mathlib.Core.Bool.{false}
 use native.Mathlib.Omega.{arith}
-use lib.Dec.{lit<, lit≤}
+use lib.Dec.{lit≤}
 use lib.ListN.{length}
-use lib.Ieee.{Float, binary64, sub, mul, div, le}
+use lib.Ieee.{Float, le}
 use Rattle.answers.specs.Pick.{pick-case}
-use Rattle.floats.specs.Functions.{zero64, whole, root}
+use Rattle.floats.specs.Functions.{zero64, whole}
 use Rattle.floats.proofs.Levels.{AtMost}
 use Rattle.folds.specs.Sums.{upto, table, at, square, sumOf, prefixSums, prefixSquares}
 use Rattle.coarse.specs.Bins.{windowLen, lags}
@@ -16,7 +16,7 @@ use Rattle.coarse.specs.Scoring.{energyFloor, meanOf, centred, nearEnerg
 use Rattle.coarse.specs.declared.Geometry.{Geometry}
 use Rattle.coarse.proofs.Laws.{All, all-at, all-table, length-table}
 use Rattle.coarse.proofs.Settings.{Allowed, wide, short}
-use Rattle.coarse.proofs.Sizes.{Size, size-finite, mul-size, div-size, AtLeast, mul-at-least, root-at-least, above-floor, level-size, whole-at-least, at-least-size, less-size, total-size}
+use Rattle.coarse.proofs.Sizes.{Size, size-finite, mul-size, div-size, mul-at-least, root-at-least, above-floor, level-size, whole-at-least, at-least-size, less-size, total-size}
 
 -- the levels and the window of a full frame
 pub record Readable (g : Geometry) (levels window : List Float) : Type 0 where

@@ -1,13 +1,12 @@
 -- What is known of a geometry that follows from a rate and a ceiling of the table.
-use Prim.Native.Nat.{ℕ, _+_, _*_, _/_, _≤_, _<_}
+use Prim.Native.Nat.{ℕ, _*_, _/_, _≤_, _<_}
 use mathlib.Core.Path.{_≡_, refl, sym, subst}
-use mathlib.Core.Bool.{Bool, true}
+use mathlib.Core.Bool.{true}
 use native.Mathlib.Nat.{mul-le-mul, div-lt-iff-lt-mul}
 use native.Mathlib.Omega.{arith}
 use lib.Dec.{leb, eqb}
 use borrow.Author.Tests.{leb-true, eqb-true, eq-eqb}
-use Rattle.answers.specs.Pick.{both}
-use Rattle.answers.specs.Numbers.{within, allowedRate, allowedCeiling}
+use Rattle.answers.specs.Numbers.{allowedRate, allowedCeiling}
 use Rattle.coarse.specs.Bins.{inTable, decimationOf, binRateOf, geometryOf, sameGeometry, windowLen}
 use Rattle.coarse.specs.declared.Geometry.{Geometry}
 use Rattle.coarse.proofs.Laws.{both-and, both-left, both-right}

@@ -17,7 +17,7 @@ use Rattle.folds.specs.Sums.{zeros, table, allFinite}
 use Rattle.coarse.specs.Bins.{geometryOf, decimationOf, envelopeLen, lags}
 use Rattle.coarse.specs.State.{Buffers, World, finished, idle}
 use Rattle.coarse.specs.Blocks.{onGrid}
-use Rattle.coarse.specs.Steps.{Deed, near, score, rearm, discard, reset, ask, Call, far, deed, Response, refusalOf, Step, called, making}
+use Rattle.coarse.specs.Steps.{Deed, near, score, rearm, discard, reset, ask, Call, far, deed, Response, refusalOf, called, making}
 use Rattle.coarse.specs.declared.Geometry.{Geometry}
 use Rattle.coarse.specs.declared.Scan.{Scan}
 
