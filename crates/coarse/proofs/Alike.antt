@@ -1,38 +1,38 @@
 -- Two worlds that agree on all that a frame may read from a block on: every call answers alike in both, and leaves them alike.
-use Prim.Native.Nat.{ℕ, suc, _+_, _-_, _*_, _≤_, _<_, min}
+use Prim.Native.Nat.{ℕ, _+_, _-_, _*_, _≤_, _<_}
 use mathlib.Core.Path.{_≡_, refl, sym, ap, ap₂, _∙_, subst, subst₂}
 use mathlib.Core.Logic.{_⊎_, inl, inr}
-use mathlib.Core.List.{List, [], _∷_, _++_}
+use mathlib.Core.List.{List, [], _∷_}
 use mathlib.Core.Bool.{Bool, true, false, not, true≢false}
 use native.Mathlib.Nat.{le-div-iff-mul-le, eq-or-lt-of-le}
 use native.Mathlib.Omega.{arith}
 use lib.Dec.{T, ltb, eqb}
-use lib.ListN.{length, set, take, drop, length-set, length-append, length-take, length-drop, take-append-drop}
+use lib.ListN.{length, set, length-set}
 use lib.Seq.{getD-set-other}
-use lib.Ieee.{Float, nan, binary32, fits}
-use lib.Ieee.Fits.{nan-fits}
+use lib.Ieee.{Float, nan}
 use lib.Ieee.Scale.{finite}
 use borrow.Author.Tests.{ltb-true, ltb-false, eqb-true, ne-eqb, not-false}
 use Rattle.answers.specs.Pick.{pick, both, pick-true, pick-case}
 use Rattle.answers.specs.Refusals.{require, before, none, notFinite, wrongLength}
-use Rattle.floats.specs.Functions.{zero64}
-use Rattle.folds.specs.Sums.{zeros, table, at, allFinite, prefixSums, prefixSquares}
+use Rattle.folds.specs.Sums.{at, prefixSums, prefixSquares}
 use Rattle.coarse.specs.Bins.{envelopeLen, windowLen}
 use Rattle.coarse.specs.State.{Buffers, World, finished, full, idle, due, firstRefusals}
-use Rattle.coarse.specs.Blocks.{hearAll, Seen, gather, dropped, onGrid, firstBin, summed, levelOf}
+use Rattle.coarse.specs.Blocks.{Seen, gather, dropped, onGrid, firstBin, summed, levelOf}
 use Rattle.coarse.specs.Scoring.{uncovered, windowOf, binAt, quiet, flat, scoresOf}
 use Rattle.coarse.specs.Calls.{Observation, FarPush, NearPush, Clearing, Restart, allLengths, frameOf, windowIn, isUncovered, isAhead, consumed, withNearVerdict, farRefusal, pushedFar, nearRefusal, pushedNear, scoreRefusal, counted, judged, scoredFrame, observed, takenBy, clearing, clearRefusal, rearmed, discarded, resetRefusal, wasReset, reportRefusal, binSamples, ceilingSamples, regionOf, beyondCeiling, isFinished, isExhausted, framesOf, correlationOf}
 use Rattle.coarse.specs.Steps
 use Rattle.coarse.specs.Steps.{Report, «bin_samples», «ceiling_samples», region, «beyond_ceiling», frames, correlation, exhausted, Deed, near, score, rearm, discard, reset, ask, Call, far, deed, Response, refusalOf, changes, takes, Step, step, withLagSums, reported, called}
-use Rattle.coarse.specs.Streams.{begins, AllF32, FairDeed, FairCall, LateDeed, LateCall, Fair, Late, Item, own, foreign, answers, cleanAnswers, cleaned, accepted, Lengths, lengthsOf, asCall, unheard, cleanCall}
+use Rattle.coarse.specs.Streams.{begins, AllF32, FairDeed, FairCall, LateDeed, LateCall, Fair, Late, Item, own, foreign, answers, cleanAnswers, cleaned, accepted, Lengths, lengthsOf, asCall, cleanCall}
 use Rattle.coarse.specs.declared.Geometry.{Geometry}
 use Rattle.coarse.specs.declared.Near.{Near}
 use Rattle.coarse.specs.declared.Verdict.{Verdict}
 use Rattle.coarse.specs.declared.Taking.{Taking}
 use Rattle.coarse.specs.declared.Taking.the-variants as taking
-use Rattle.coarse.proofs.Laws.{pick-both, unless-case, unless-both, holds, either-right, both-fails, both-and, both-left, stored-alike, take-alike, length-table, length-zeros, table-alike, table-front, all-zeros, all-finite, finite-append}
+use Rattle.coarse.proofs.Laws.{pick-both, unless-both, holds, either-right, both-fails, both-and, stored-alike, take-alike, table-alike}
 use Rattle.coarse.proofs.Settings.{some, wide}
-use Rattle.coarse.proofs.Hears.{withSum, HeardAlike, hears-all, f32-append, f32-table, f32-drop}
+use Rattle.coarse.proofs.Masked.{masked, masked-length, masked-finite, masked-f32, masked-muted}
+use Rattle.coarse.proofs.Numbered.{near-number}
+use Rattle.coarse.proofs.Hears.{withSum, HeardAlike, hears-all}
 use Rattle.coarse.proofs.Earlier.{call-passes}
 use Rattle.coarse.proofs.Sound.{heardIn, seenIn, Sound, first-refusals}
 use Rattle.coarse.proofs.Accepted.{far-taken, scoreable}
@@ -75,35 +75,6 @@ is-other slack block w v h =
 covered : (slack : ℕ) (g : Geometry) (next s : ℕ) → uncovered slack g next s ≡ false → next ≤ s - g .span + envelopeLen slack g
 unfolding uncovered
 covered slack g next s u = omega (arith, ltb-false (s - g .span) (next - envelopeLen slack g) (either-right (ltb s (g .span)) _ u))
-
--- ---- samples that nobody may look at
-
--- they are finite where those in whose place they stand are
-unheard-finite : (xs : List Float) → allFinite (unheard (length xs) (allFinite xs)) ≡ allFinite xs
-unheard-finite [] = (unfold allFinite zeros table in refl)
-unheard-finite (x ∷ xs) = go (allFinite (x ∷ xs))
-  where
-    go : (fine : Bool) → allFinite (unheard (suc (length xs)) fine) ≡ fine
-    go true = all-finite (λ z. finite z ≡ true) _ (λ z e. e) (all-zeros _ (suc (length xs)) refl)
-    go false = ap allFinite (table-front nan (length xs)) ∙ (unfold allFinite pick in refl)
-
-length-unheard : (n : ℕ) (fine : Bool) → length (unheard n fine) ≡ n
-length-unheard n true = length-zeros n
-length-unheard n false = length-table _ n
-
-pub unheard-f32 : (n : ℕ) (fine : Bool) → AllF32 (unheard n fine)
-unheard-f32 n true = (unfold zeros in f32-table zero64 n (unfold fits in tt))
-unheard-f32 n false = f32-table nan n (nan-fits binary32)
-
-near-accepted : (slack : ℕ) (w : World) (x : Float) (index : ℕ) → nearRefusal (w .scan) (w .buffers .levels) x index ≡ 0 → accepted slack w (deed (near x index))
-unfolding called pushedNear
-near-accepted slack w x index z =
-    unless-case P (nearRefusal (w .scan) (w .buffers .levels) x index) _ _ (λ r. absurd (r z))
-    (λ c. pick-case P (finished (w .scan .verdict)) _ _ (λ f. refl)
-    (λ f. pick-case P (dropped (w .scan .geometry) (w .scan .near) index) _ _ (λ d. refl) (λ d. pick-case (λ (a : Taking). refusalOf (takes a) ≡ none) _ _ _ (λ t. refl) (λ t. refl))))
-  where
-    P : NearPush → Type 0
-    P p = refusalOf (takes (p .took .answer)) ≡ none
 
 module _ (slack block : ℕ) (w : World) (sum : Float) (b : Buffers) (h : Alike slack block w (other w sum b)) (s : Sound slack w) (s' : Sound slack (other w sum b)) where
   abbrev g : Geometry
@@ -182,41 +153,40 @@ module _ (slack block : ℕ) (w : World) (sum : Float) (b : Buffers) (h : Alike 
         lagSums = t;
       }
 
-  judged-alike : full g (w .scan .near) ≡ true → (levels window : List Float) → Both (scoreStep (judged w levels window)) (scoreStep (judged v levels window))
+  -- the frame is consumed
+  consumes : full g (w .scan .near) ≡ true → (verdict : Verdict) (before after : Buffers)
+      → before .envelope ≡ w .buffers .envelope → after .envelope ≡ b .envelope → after .lagSums ≡ before .lagSums → lengthsOf after ≡ lengthsOf before
+      → Alike slack block (record { scan = withNearVerdict (w .scan) (consumed (w .scan .near)) verdict; buffers = before }) (record { scan = withNearVerdict (v .scan) (consumed (w .scan .near)) verdict; buffers = after })
+  consumes f verdict before after = emptied (consumed (w .scan .near)) verdict before after refl (λ i. h .seen .first (under-way f))
+
+  abbrev Scored : Observation → Observation → Type 0
+  Scored p q = Both (scoreStep p) (scoreStep q)
+
+  judged-alike : full g (w .scan .near) ≡ true → (levels window : List Float) → Scored (judged w levels window) (judged v levels window)
   unfolding judged counted
   judged-alike f levels window =
-      pick-both P (quiet window) _ _ _ _ (λ t. record { response = refl; world = consumes _ _ refl refl refl windowed })
-      (λ t. pick-both P (flat levels) _ _ _ _ (λ u. record { response = refl; world = consumes _ _ refl refl refl windowed })
-      (λ u. record { response = refl; world = consumes _ _ refl refl refl (ap (λ (l : Lengths). record { levels = l .levels; window = length window; prefix = length (prefixSums window); squares = length (prefixSquares window); scores = length (scoresOf g levels window) }) (h .lengths)) }))
+      pick-both Scored (quiet window) _ _ _ _ (λ t. record { response = refl; world = consumes f _ _ _ refl refl refl windowed })
+      (λ t. pick-both Scored (flat levels) _ _ _ _ (λ u. record { response = refl; world = consumes f _ _ _ refl refl refl windowed }) (λ u. record { response = refl; world = consumes f _ _ _ refl refl refl counted-lengths }))
     where
-      P : Observation → Observation → Type 0
-      P p q = Both (scoreStep p) (scoreStep q)
-
-      consumes : (before after : Buffers) → before .envelope ≡ w .buffers .envelope → after .envelope ≡ b .envelope → after .lagSums ≡ before .lagSums → lengthsOf after ≡ lengthsOf before
-          → {verdict : Verdict} → Alike slack block (record { scan = withNearVerdict (w .scan) (consumed (w .scan .near)) verdict; buffers = before }) (record { scan = withNearVerdict (v .scan) (consumed (w .scan .near)) verdict; buffers = after })
-      consumes before after p q t e {verdict} = emptied (consumed (w .scan .near)) verdict before after refl (λ i. h .seen .first (under-way f)) p q t e
-
       windowed : _≡_ {A = Lengths}
           (record { levels = length (b .levels); window = length window; prefix = length (b .prefix); squares = length (b .squares); scores = length (b .scores) })
           (record { levels = length (w .buffers .levels); window = length window; prefix = length (w .buffers .prefix); squares = length (w .buffers .squares); scores = length (w .buffers .scores) })
       windowed = ap (λ (l : Lengths). record { levels = l .levels; window = length window; prefix = l .prefix; squares = l .squares; scores = l .scores }) (h .lengths)
 
-  score-alike : Both (scoreStep (observed slack w)) (scoreStep (observed slack v))
+      counted-lengths : _≡_ {A = Lengths}
+          (record { levels = length (b .levels); window = length window; prefix = length (prefixSums window); squares = length (prefixSquares window); scores = length (scoresOf g levels window) })
+          (record { levels = length (w .buffers .levels); window = length window; prefix = length (prefixSums window); squares = length (prefixSquares window); scores = length (scoresOf g levels window) })
+      counted-lengths = ap (λ (n : ℕ). record { levels = n; window = length window; prefix = length (prefixSums window); squares = length (prefixSquares window); scores = length (scoresOf g levels window) }) (h .seen .length)
+
+  score-alike : Scored (observed slack w) (observed slack v)
   unfolding observed scoredFrame
   score-alike =
       rw score-refusal
-      (unless-both P (scoreRefusal slack w) _ _ _ _ (record { response = refl; world = h })
+      (unless-both Scored (scoreRefusal slack w) _ _ _ _ (record { response = refl; world = h })
       (λ z. let f = scoreable slack w z .full in
-      pick-both P (isUncovered slack w) _ _ _ _ (λ u. record { response = refl; world = unread f })
-      (λ u. pick-both P (isAhead w) _ _ _ _ (λ t. record { response = refl; world = unread f })
+      pick-both Scored (isUncovered slack w) _ _ _ _ (λ u. record { response = refl; world = consumes f _ _ _ refl refl refl (h .lengths) })
+      (λ u. pick-both Scored (isAhead w) _ _ _ _ (λ t. record { response = refl; world = consumes f _ _ _ refl refl refl (h .lengths) })
       (λ t. rw (frame-same, window-same f u) (judged-alike f (frameOf w) (windowIn slack w))))))
-    where
-      P : Observation → Observation → Type 0
-      P p q = Both (scoreStep p) (scoreStep q)
-
-      unread : full g (w .scan .near) ≡ true
-          → Alike slack block (record { scan = withNearVerdict (w .scan) (consumed (w .scan .near)) (w .scan .verdict); buffers = w .buffers }) (record { scan = withNearVerdict (v .scan) (consumed (w .scan .near)) (w .scan .verdict); buffers = v .buffers })
-      unread f = emptied (consumed (w .scan .near)) (w .scan .verdict) (w .buffers) (v .buffers) refl (λ i. h .seen .first (under-way f)) refl refl refl (h .lengths)
 
   clear-alike : (n : Near) (verdict : Verdict) → n .len ≡ 0 → (idle n ≡ false → block + g .span ≤ n .first)
       → Both (clearStep (w .buffers) (clearing (w .scan) (w .buffers .lagSums) (withNearVerdict (w .scan) n verdict))) (clearStep (v .buffers) (clearing (v .scan) (w .buffers .lagSums) (withNearVerdict (v .scan) n verdict)))
@@ -271,13 +241,13 @@ module _ (slack block : ℕ) (w : World) (sum : Float) (b : Buffers) (h : Alike 
       stored j (inr l) = getD-set-other (b .levels) n j level nan (omega arith) ∙ h .seen .levels j l ∙ sym (getD-set-other (w .buffers .levels) n j level nan (omega arith))
 
   near-alike : (x : Float) (index : ℕ) → LateDeed slack block w (near x index) → Both (nearStep (w .buffers) (pushedNear (w .scan) (w .buffers .levels) x index)) (nearStep (v .buffers) (pushedNear (v .scan) (b .levels) x index))
-  unfolding pushedNear
+  unfolding called pushedNear
   near-alike x index late =
       rw (near-refusal x index)
       (unless-both P (nearRefusal (w .scan) (w .buffers .levels) x index) _ _ _ _ unchanged
       (λ z. pick-both P (finished (w .scan .verdict)) _ _ _ _ (λ f. unchanged)
       (λ f. pick-both P (dropped g (w .scan .near) index) _ _ _ _ (λ d. unchanged)
-      (λ d. taken _ _ (gather-alike x index (late-bin index f d (late (near-accepted slack w x index z))))))))
+      (λ d. taken _ _ (gather-alike x index (late-bin index f d (late (near-number slack w x index .is ∙ z))))))))
     where
       P : NearPush → NearPush → Type 0
       P p q = Both (nearStep (w .buffers) p) (nearStep (v .buffers) q)
@@ -307,37 +277,15 @@ module _ (slack block : ℕ) (w : World) (sum : Float) (b : Buffers) (h : Alike 
     abbrev early : ℕ
     early = block * g .decimation - w .scan .far .accepted
 
-    abbrev fine : Bool
-    fine = allFinite (take early xs)
-
-    abbrev ys : List Float
-    ys = unheard (min early (length xs)) fine ++ drop early xs
-
-    ys-length : length ys ≡ length xs
-    ys-length = omega (arith, length-append (unheard (min early (length xs)) fine) (drop early xs), length-unheard (min early (length xs)) fine, length-drop early xs)
-
-    ys-finite : allFinite ys ≡ allFinite xs
-    ys-finite =
-        finite-append (unheard (min early (length xs)) fine) (drop early xs)
-        ∙ ap (λ (t : Bool). both t (allFinite (drop early xs))) (ap (λ (n : ℕ). allFinite (unheard n fine)) (sym (length-take early xs)) ∙ unheard-finite (take early xs))
-        ∙ sym (finite-append (take early xs) (drop early xs))
-        ∙ ap allFinite (take-append-drop early xs)
-
-    ys-f32 : AllF32 xs → AllF32 ys
-    ys-f32 t = f32-append (unheard (min early (length xs)) fine) (drop early xs) (unheard-f32 (min early (length xs)) fine) (f32-drop early xs t)
-
-    fine-true : allFinite xs ≡ true → fine ≡ true
-    fine-true f = both-left fine (allFinite (drop early xs)) (sym (finite-append (take early xs) (drop early xs)) ∙ ap allFinite (take-append-drop early xs) ∙ f)
-
-    far-refusal : farRefusal slack (v .scan) (b .envelope) ys ≡ farRefusal slack (w .scan) (w .buffers .envelope) xs
+    far-refusal : farRefusal slack (v .scan) (b .envelope) (masked early xs) ≡ farRefusal slack (w .scan) (w .buffers .envelope) xs
     unfolding farRefusal
     far-refusal =
         let e = first-same (eqb (length (w .buffers .envelope)) (envelopeLen slack (due (w .scan)))) (eqb (length (b .envelope)) (envelopeLen slack (due (w .scan)))) (ap (λ (n : ℕ). eqb n (envelopeLen slack (due (w .scan)))) (h .heard .lengths)) in
-        let l = ys-length in
-        let f = ys-finite in
+        let l = masked-length early xs in
+        let f = masked-finite early xs in
         cc
 
-    far-alike : AllF32 xs → Both (farStep (w .buffers) (pushedFar slack (w .scan) (w .buffers .envelope) xs)) (farStep (v .buffers) (pushedFar slack (v .scan) (b .envelope) ys))
+    far-alike : AllF32 xs → Both (farStep (w .buffers) (pushedFar slack (w .scan) (w .buffers .envelope) xs)) (farStep (v .buffers) (pushedFar slack (v .scan) (b .envelope) (masked early xs)))
     unfolding pushedFar
     far-alike t =
         rw far-refusal
@@ -348,9 +296,7 @@ module _ (slack block : ℕ) (w : World) (sum : Float) (b : Buffers) (h : Alike 
               record {
                 geometry = refl;
                 verdict = refl;
-                heard =
-                    subst (λ (t : Bool). HeardAlike slack g block (hearAll slack g (heardIn w) xs) (hearAll slack g (heardIn v) (unheard (min early (length xs)) t ++ drop early xs))) (sym (fine-true c))
-                    (hears-all slack g block (s .allowed) xs early (heardIn w) (heardIn v) (omega arith) c t (s .far .heard) (h .heard));
+                heard = rw (masked-muted early xs c) (hears-all slack g block (s .allowed) xs early (heardIn w) (heardIn v) (omega arith) c t (s .far .heard) (h .heard));
                 seen = h .seen;
                 lengths = h .lengths;
                 lagSums = refl;
@@ -373,7 +319,7 @@ module _ (slack block : ℕ) (w : World) (sum : Float) (b : Buffers) (h : Alike 
 
   -- the second call is as fair as the first
   call-fair : (c : Call) → FairCall slack w c → LateCall slack block w c → FairCall slack v (asCall (cleanCall (block * g .decimation) w c))
-  call-fair (far xs) f l = ys-f32 xs f
+  call-fair (far xs) f l = masked-f32 (early xs) xs f
   call-fair (deed (near x index)) f l = f
   call-fair (deed score) f l = f
   call-fair (deed rearm) f l = f

@@ -21,7 +21,8 @@ use Rattle.coarse.specs.Streams.{Item, own, foreign, after, heard, broug
 use Rattle.coarse.specs.declared.Geometry.{Geometry}
 use Rattle.coarse.specs.declared.Scan.{Scan}
 use Rattle.coarse.proofs.Laws.{unless-case, both-and, both-left, both-right, length-table, finite-append}
-use Rattle.coarse.proofs.Hears.{hearAll-append, f32-append}
+use Rattle.coarse.proofs.Hears.{hearAll-append}
+use Rattle.coarse.proofs.Masked.{f32-append}
 use Rattle.coarse.proofs.Sound.{heardIn, Sound}
 use Rattle.coarse.proofs.Accepted.{scoreable, far-taken}
 use Rattle.coarse.proofs.Contracts.{farStep, nearStep, scoreStep, clearStep, resetStep}

@@ -5,7 +5,7 @@ use mathlib.Core.List.{List}
 use mathlib.Core.Bool.{true, true≢false}
 use native.Mathlib.Omega.{arith}
 use lib.Dec.{leb, eqb}
-use lib.ListN.{length, take, drop, length-append, length-drop, take-append-drop}
+use lib.ListN.{length, drop}
 use lib.Ieee.{Float}
 use borrow.Author.Tests.{eq-eqb, le-leb}
 use Rattle.answers.specs.Pick.{pick, pick-true}
@@ -19,15 +19,16 @@ use Rattle.coarse.specs.Calls.{Clearing, FarPush, Restart, withFar, made
 use Rattle.coarse.specs.Steps.{far, deed, rearm, refusalOf, changes, withEnvelope, called, making}
 use Rattle.coarse.specs.Streams.{Item, accepted, AllF32, after, heard, Stream, resumed, answersSince, factsOf, Forgets, ForgetsTwo, Facts, CleanCall, fromTheseAlone, cleanWorld, cleaned, Lengths, lengthsOf, zeroBuffers, firstKnown}
 use Rattle.coarse.specs.declared.Geometry.{Geometry}
-use Rattle.coarse.proofs.Laws.{unless-case, both-and, both-right, length-zeros, all-zeros, all-finite, finite-append}
+use Rattle.coarse.proofs.Laws.{unless-case, both-and, length-zeros}
 use Rattle.coarse.proofs.Settings.{allowed}
-use Rattle.coarse.proofs.Hears.{hearAll-accepted, HeardAlike, hears-all, muted, f32-append, f32-drop}
+use Rattle.coarse.proofs.Masked.{muted, masked, masked-length, masked-finite, masked-f32, masked-muted}
+use Rattle.coarse.proofs.Hears.{hearAll-accepted, HeardAlike, hears-all}
 use Rattle.coarse.proofs.Sound.{heardIn, Sound, first-refusals}
 use Rattle.coarse.proofs.Contracts.{farStep, clearStep, resetStep}
 use Rattle.coarse.proofs.Fresh.{fresh, fresh-sound, began}
 use Rattle.coarse.proofs.Keeps.{called-sound}
 use Rattle.coarse.proofs.Earlier.{Passed, call-passes, passes}
-use Rattle.coarse.proofs.Alike.{Alike, unheard-f32, answers-alike}
+use Rattle.coarse.proofs.Alike.{Alike, answers-alike}
 
 -- what a new far side makes of these samples, and a new scan that was fed them
 abbrev fed : ℕ → Geometry → List Float → Heard
@@ -43,47 +44,42 @@ module _ (slack rate ceiling : ℕ) (inside : inTable rate ceiling ≡ true) whe
   g = geometryOf rate ceiling
 
   module _ (l : Lengths) where
-    abbrev zb : Buffers
-    zb = zeroBuffers slack g l
+    abbrev blank : Buffers
+    blank = zeroBuffers slack g l
 
-    making-accepted : makingRefusal slack rate ceiling (zb .envelope) (zb .lagSums) ≡ 0
+    making-accepted : makingRefusal slack rate ceiling (blank .envelope) (blank .lagSums) ≡ 0
     unfolding makingRefusal
     making-accepted =
         pick-true (inTable rate ceiling) _ _ inside
-        ∙ pick-true (restartLengths slack g (zb .envelope) (zb .lagSums)) _ _ (both-and _ _ (eq-eqb _ (envelopeLen slack g) (length-zeros (envelopeLen slack g))) (eq-eqb _ (lags g) (length-zeros (lags g))))
+        ∙ pick-true (restartLengths slack g (blank .envelope) (blank .lagSums)) _ _ (both-and _ _ (eq-eqb _ (envelopeLen slack g) (length-zeros (envelopeLen slack g))) (eq-eqb _ (lags g) (length-zeros (lags g))))
 
-    making-world : making slack rate ceiling zb .world ≡ fresh slack g zb
+    making-world : making slack rate ceiling blank .world ≡ fresh slack g blank
     unfolding making made
-    making-world = unless-case (λ (p : Restart). resetStep zb p .world ≡ fresh slack g zb) (makingRefusal slack rate ceiling (zb .envelope) (zb .lagSums)) _ _ (λ r. absurd (r making-accepted)) (λ z. refl)
+    making-world = unless-case (λ (p : Restart). resetStep blank p .world ≡ fresh slack g blank) (makingRefusal slack rate ceiling (blank .envelope) (blank .lagSums)) _ _ (λ r. absurd (r making-accepted)) (λ z. refl)
 
     -- samples that a stream accepted, the first ones silent
     module _ (n : ℕ) (xs : List Float) (few : length xs ≤ limit) (fine : allFinite xs ≡ true) (f32 : AllF32 xs) where
-      muted-length : length (muted n xs) ≡ length xs
-      muted-length = omega (arith, length-append (zeros (min n (length xs))) (drop n xs), length-zeros (min n (length xs)), length-drop n xs)
-
-      muted-finite : allFinite (muted n xs) ≡ true
-      muted-finite =
-          finite-append (zeros (min n (length xs))) (drop n xs)
-          ∙ both-and _ _ (all-finite (λ z. lib.Ieee.Scale.finite z ≡ true) _ (λ z e. e) (all-zeros _ (min n (length xs)) refl))
-          (both-right (allFinite (take n xs)) (allFinite (drop n xs)) (sym (finite-append (take n xs) (drop n xs)) ∙ ap allFinite (take-append-drop n xs) ∙ fine))
+      silent : masked n xs ≡ muted n xs
+      silent = masked-muted n xs fine
 
       muted-f32 : AllF32 (muted n xs)
-      muted-f32 = f32-append (zeros (min n (length xs))) (drop n xs) (unheard-f32 (min n (length xs)) true) (f32-drop n xs f32)
+      muted-f32 = subst AllF32 silent (masked-f32 n xs f32)
 
-      push-accepted : farRefusal slack (fresh slack g zb .scan) (fresh slack g zb .buffers .envelope) (muted n xs) ≡ 0
+      push-accepted : farRefusal slack (fresh slack g blank .scan) (fresh slack g blank .buffers .envelope) (muted n xs) ≡ 0
       unfolding farRefusal pick
       push-accepted =
-          let lengths : eqb (length (zeros (envelopeLen slack g))) (envelopeLen slack (due (fresh slack g zb .scan))) ≡ true =
+          let lengths : eqb (length (zeros (envelopeLen slack g))) (envelopeLen slack (due (fresh slack g blank .scan))) ≡ true =
           eq-eqb _ _ (length-zeros (envelopeLen slack g) ∙ ap (envelopeLen slack) (allowed rate ceiling inside .follows)) in
-          let first = first-refusals slack (fresh slack g zb) (fresh-sound slack g zb (allowed rate ceiling inside)) true in
-          let room : leb (0 + length (muted n xs)) limit ≡ true = le-leb (0 + length (muted n xs)) limit (omega (arith, muted-length)) in
-          rw (lengths, first, room, muted-finite)
+          let first = first-refusals slack (fresh slack g blank) (fresh-sound slack g blank (allowed rate ceiling inside)) true in
+          let room : leb (0 + length (muted n xs)) limit ≡ true = le-leb (0 + length (muted n xs)) limit (omega (arith, ap length (sym silent) ∙ masked-length n xs)) in
+          let all-fine : allFinite (muted n xs) ≡ true = ap allFinite (sym silent) ∙ masked-finite n xs ∙ fine in
+          rw (lengths, first, room, all-fine)
 
-      clean-is : called slack (making slack rate ceiling zb .world) (far (muted n xs)) .world ≡ fedWorld slack rate ceiling l (muted n xs)
+      clean-is : called slack (making slack rate ceiling blank .world) (far (muted n xs)) .world ≡ fedWorld slack rate ceiling l (muted n xs)
       clean-is = ap (λ (w : World). called slack w (far (muted n xs)) .world) making-world ∙ pushed
         where
-          pushed : called slack (fresh slack g zb) (far (muted n xs)) .world ≡ fedWorld slack rate ceiling l (muted n xs)
-          pushed = (unfold called pushedFar in unless-case (λ (p : FarPush). farStep (fresh slack g zb .buffers) p .world ≡ fedWorld slack rate ceiling l (muted n xs)) (farRefusal slack (fresh slack g zb .scan) (fresh slack g zb .buffers .envelope) (muted n xs)) _ _ (λ r. absurd (r push-accepted)) (λ z. refl))
+          pushed : called slack (fresh slack g blank) (far (muted n xs)) .world ≡ fedWorld slack rate ceiling l (muted n xs)
+          pushed = (unfold called pushedFar in unless-case (λ (p : FarPush). farStep (fresh slack g blank .buffers) p .world ≡ fedWorld slack rate ceiling l (muted n xs)) (farRefusal slack (fresh slack g blank .scan) (fresh slack g blank .buffers .envelope) (muted n xs)) _ _ (λ r. absurd (r push-accepted)) (λ z. refl))
 
   -- ---- at the rearm
 
@@ -123,7 +119,7 @@ module _ (slack rate ceiling : ℕ) (inside : inTable rate ceiling ≡ true) whe
     unfolding cleanWorld
     clean-sound calls =
         subst (λ (z : World). Sound slack (called slack z (far (muted early xs)) .world)) (sym (making-world (lengthsOf lent)))
-        (called-sound slack (fresh slack g (zb (lengthsOf lent))) (fresh-sound slack g (zb (lengthsOf lent)) (allowed rate ceiling inside)) (far (muted early xs)) (muted-f32 (lengthsOf lent) early xs few (p .finite) (p .samples)))
+        (called-sound slack (fresh slack g (blank (lengthsOf lent))) (fresh-sound slack g (blank (lengthsOf lent)) (allowed rate ceiling inside)) (far (muted early xs)) (muted-f32 (lengthsOf lent) early xs few (p .finite) (p .samples)))
 
   forgets-from : (block : ℕ) (w : World) (earlier later : List Item) → w ≡ fresh slack g (w .buffers) → Stream slack rate ceiling block w earlier later
       → answersSince slack w earlier later ≡ fromTheseAlone slack (factsOf slack rate ceiling block w earlier later)

@@ -4,25 +4,22 @@ use mathlib.Core.Path.{_≡_, refl, sym, _∙_, subst}
 use mathlib.Core.List.{List}
 use mathlib.Core.Bool.{Bool, true}
 use native.Mathlib.Omega.{arith}
-use lib.Ieee.{Float}
-use Rattle.answers.specs.Pick.{pick, pick-true, pick-all, pick-case}
-use Rattle.answers.specs.Refusals.{none, unless, wrongLength, notFinite, tooLarge, frameWaits, noFullFrame}
+use Rattle.answers.specs.Pick.{pick, pick-true, pick-all}
+use Rattle.answers.specs.Refusals.{none, wrongLength, notFinite, tooLarge, frameWaits, noFullFrame}
 use Rattle.floats.proofs.Levels.{AtMost, at-most-finite}
 use Rattle.coarse.specs.State.{World, finished, firstRefusals}
-use Rattle.coarse.specs.Blocks.{dropped}
-use Rattle.coarse.specs.Scoring.{quiet, flat}
-use Rattle.coarse.specs.Calls.{NearPush, Observation, isUncovered, isAhead, windowIn, readable, farRefusal, pushedFar, nearRefusal, pushedNear, scoreRefusal, counted, judged, scoredFrame, observed, clearRefusal, rearmed, discarded, resetRefusal, wasReset, reportRefusal, binSamples, ceilingSamples, regionOf, beyondCeiling, isFinished, isExhausted, framesOf, correlationOf}
+use Rattle.coarse.specs.Calls.{isUncovered, isAhead, windowIn, readable, farRefusal, nearRefusal, scoreRefusal, clearRefusal, resetRefusal, reportRefusal, binSamples, ceilingSamples, regionOf, beyondCeiling, isFinished, isExhausted, framesOf, correlationOf}
 use Rattle.coarse.specs.Steps
-use Rattle.coarse.specs.Steps.{Report, «bin_samples», «ceiling_samples», region, «beyond_ceiling», frames, correlation, exhausted, near, score, rearm, discard, reset, ask, Call, far, deed, refusalOf, changes, takes, scores, reported, called}
+use Rattle.coarse.specs.Steps.{Report, «bin_samples», «ceiling_samples», region, «beyond_ceiling», frames, correlation, exhausted, near, score, rearm, discard, reset, ask, Call, far, deed, refusalOf, reported, called}
 use Rattle.coarse.specs.Streams.{Item, after, Fair, Began}
 use Rattle.coarse.specs.Health.{Healthy, StaysHealthy, NeverBroken, NeverUnreadable}
-use Rattle.coarse.specs.declared.Taking.{Taking}
-use Rattle.coarse.proofs.Laws.{unless-case, both-and, either-or, all-finite}
+use Rattle.coarse.proofs.Laws.{both-and, either-or, all-finite}
 use Rattle.coarse.proofs.Settings.{allowed}
 use Rattle.coarse.proofs.Sizes.{Size, size-finite}
 use Rattle.coarse.proofs.Sound.{Sound, rules-hold, first-refusals}
 use Rattle.coarse.proofs.Keeps.{window-small}
 use Rattle.coarse.proofs.Fresh.{fresh-sound, began}
+use Rattle.coarse.proofs.Numbered.{far-number, near-number, score-number, rearm-number, discard-number, reset-number}
 use Rattle.coarse.proofs.Earlier.{passes}
 
 pub stays-sound : (slack rate ceiling : ℕ) (w : World) (items : List Item) → Began slack rate ceiling w → Fair slack w items → Sound slack (after slack w items)
@@ -41,53 +38,6 @@ module _ (slack : ℕ) (w : World) (s : Sound slack w) where
         nearLevels = all-finite (AtMost 1) _ (at-most-finite 1) (s .near .levels);
         lagSums = all-finite (Size (w .scan .verdict .banked) 323) (w .buffers .lagSums) (size-finite (w .scan .verdict .banked) 323) (s .lagSums .sizes);
       }
-
--- ---- the refusal number of every call
-
--- n is the refusal number of what is answered
-record Numbered {A : Type 0} (number : A → ℕ) (n : ℕ) (x : A) : Type 0 where
-  is : number x ≡ n
-
--- a call answers its refusal number, or something that is no refusal
-numbered : {A : Type 0} (number : A → ℕ) (n : ℕ) (x y : A) → number x ≡ n → number y ≡ none → Numbered number n (unless n x y)
-numbered number n x y e h = unless-case (Numbered number n) n x y (λ r. record { is = e }) (λ z. record { is = h ∙ sym z })
-
-module _ (slack : ℕ) (w : World) where
-  far-number : (xs : List Float) → Numbered (λ p. refusalOf (changes (p .changed .answer))) (farRefusal slack (w .scan) (w .buffers .envelope) xs) (pushedFar slack (w .scan) (w .buffers .envelope) xs)
-  unfolding pushedFar
-  far-number xs = numbered _ (farRefusal slack (w .scan) (w .buffers .envelope) xs) _ _ refl refl
-
-  near-number : (x : Float) (index : ℕ) → Numbered (λ p. refusalOf (takes (p .took .answer))) (nearRefusal (w .scan) (w .buffers .levels) x index) (pushedNear (w .scan) (w .buffers .levels) x index)
-  unfolding pushedNear
-  near-number x index =
-      numbered _ (nearRefusal (w .scan) (w .buffers .levels) x index) _ _ refl
-      (pick-case P (finished (w .scan .verdict)) _ _ (λ f. record { is = refl })
-      (λ f. pick-case P (dropped (w .scan .geometry) (w .scan .near) index) _ _ (λ d. record { is = refl }) (λ d. record { is = pick-case (λ (a : Taking). refusalOf (takes a) ≡ none) _ _ _ (λ t. refl) (λ t. refl) })) .is)
-    where
-      P : NearPush → Type 0
-      P = Numbered (λ p. refusalOf (takes (p .took .answer))) none
-
-  score-number : Numbered (λ p. refusalOf (scores (p .scored .answer))) (scoreRefusal slack w) (observed slack w)
-  unfolding observed scoredFrame judged counted
-  score-number =
-      numbered _ (scoreRefusal slack w) _ _ refl
-      (pick-case P (isUncovered slack w) _ _ (λ t. record { is = refl })
-      (λ t. pick-case P (isAhead w) _ _ (λ t. record { is = refl }) (λ t. pick-case P (quiet _) _ _ (λ t. record { is = refl }) (λ t. pick-case P (flat _) _ _ (λ t. record { is = refl }) (λ t. record { is = refl })))) .is)
-    where
-      P : Observation → Type 0
-      P = Numbered (λ p. refusalOf (scores (p .scored .answer))) none
-
-  rearm-number : Numbered (λ p. refusalOf (changes (p .changed .answer))) (clearRefusal (w .scan) (w .buffers .lagSums)) (rearmed (w .scan) (w .buffers .lagSums))
-  unfolding rearmed
-  rearm-number = numbered _ (clearRefusal (w .scan) (w .buffers .lagSums)) _ _ refl refl
-
-  discard-number : Numbered (λ p. refusalOf (changes (p .changed .answer))) (clearRefusal (w .scan) (w .buffers .lagSums)) (discarded (w .scan) (w .buffers .lagSums))
-  unfolding discarded
-  discard-number = numbered _ (clearRefusal (w .scan) (w .buffers .lagSums)) _ _ refl refl
-
-  reset-number : Numbered (λ p. refusalOf (changes (p .changed .answer))) (resetRefusal slack (w .scan) (w .buffers .envelope) (w .buffers .lagSums)) (wasReset slack (w .scan) (w .buffers .envelope) (w .buffers .lagSums))
-  unfolding wasReset
-  reset-number = numbered _ (resetRefusal slack (w .scan) (w .buffers .envelope) (w .buffers .lagSums)) _ _ refl refl
 
 -- ---- refusals 1 and 3
 

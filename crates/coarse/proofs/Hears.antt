@@ -1,27 +1,28 @@
 -- The far side as it hears samples: its numbers stay in place and everything in it finite; and two far sides that agree from a block on still do.
-use Prim.Native.Nat.{ℕ, zero, suc, _+_, _-_, _*_, _%_, _≤_, _<_, min, zero-le}
-use mathlib.Core.Path.{_≡_, refl, sym, ap, _∙_, subst}
+use Prim.Native.Nat.{ℕ, zero, suc, _+_, _-_, _*_, _%_, _≤_, _<_, zero-le}
+use mathlib.Core.Path.{_≡_, refl, sym, _∙_, subst}
 use mathlib.Core.Logic.{_≢_, _⊎_, inl, inr}
 use mathlib.Core.List.{List, [], _∷_, _++_}
 use mathlib.Core.Bool.{true}
 use native.Mathlib.Nat.{mul-le-mul-right, eq-or-lt-of-le}
 use native.Mathlib.Omega.{arith}
 use lib.Dec.{T, eqb}
-use lib.ListN.{length, set, drop, length-set}
-use lib.Seq.{getD-set-other, drop-nil}
+use lib.ListN.{length, set, length-set}
+use lib.Seq.{getD-set-other}
 use lib.Ieee.{Float, nan, binary32, fits}
 use lib.Ieee.Scale.{finite}
 use borrow.Author.Tests.{eqb-true, eqb-false}
 use Rattle.answers.specs.Pick.{pick-case}
 use Rattle.floats.specs.Functions.{zero64, magnitude}
 use Rattle.floats.proofs.Levels.{AtMost, zero-at-most, sample-at-most, add-at-most, level-at-most}
-use Rattle.folds.specs.Sums.{zeros, at, allFinite, table}
+use Rattle.folds.specs.Sums.{at, allFinite}
 use Rattle.coarse.specs.Bins.{envelopeLen}
 use Rattle.coarse.specs.Blocks.{Heard, hear, hearAll, summed, levelOf}
 use Rattle.coarse.specs.Streams.{AllF32}
 use Rattle.coarse.specs.declared.Geometry.{Geometry}
 use Rattle.coarse.specs.declared.Far.{Far}
-use Rattle.coarse.proofs.Laws.{pick-both, holds, both-left, both-right, other-slot, stored-alike, table-front, All, all-set}
+use Rattle.coarse.proofs.Laws.{pick-both, holds, both-left, both-right, other-slot, stored-alike, All, all-set}
+use Rattle.coarse.proofs.Masked.{muted, muted-nil, muted-none, muted-one}
 use Rattle.coarse.proofs.Settings.{Allowed, few, some}
 
 -- ---- one far side
@@ -85,22 +86,6 @@ module _ (slack : ℕ) (g : Geometry) where
     hearAll-sound h [] s f t = s
     hearAll-sound h (x ∷ xs) s f t = hearAll-sound (hear slack g h x) xs (hear-sound h x s (both-left (finite x) (allFinite xs) f) (t .0)) (both-right (finite x) (allFinite xs) f) (t .1)
 
--- ---- samples of the type f32
-
-pub f32-append : (xs ys : List Float) → AllF32 xs → AllF32 ys → AllF32 (xs ++ ys)
-f32-append [] ys h k = k
-f32-append (x ∷ xs) ys h k = (h .0, f32-append xs ys (h .1) k)
-
-pub f32-table : (x : Float) (n : ℕ) → T (fits binary32 x) → AllF32 (table (λ i. x) n)
-unfolding table
-f32-table x zero h = tt
-f32-table x (suc n) h = f32-append (table (λ i. x) n) (x ∷ []) (f32-table x n h) (h, tt)
-
-pub f32-drop : (n : ℕ) (xs : List Float) → AllF32 xs → AllF32 (drop n xs)
-f32-drop zero xs h = h
-f32-drop (suc n) [] h = h
-f32-drop (suc n) (x ∷ xs) h = f32-drop n xs (h .1)
-
 -- ---- two far sides
 
 -- the same far numbers with another running sum
@@ -113,24 +98,6 @@ pub record HeardAlike (slack : ℕ) (g : Geometry) (block : ℕ) (h k : Heard) :
   pub sum : block ≤ h .far .next → k .far .sum ≡ h .far .sum
   pub lengths : length (k .envelope) ≡ length (h .envelope)
   pub bins : (j : ℕ) → block ≤ j → j < h .far .next → h .far .next ≤ j + envelopeLen slack g → at (k .envelope) (j % envelopeLen slack g) ≡ at (h .envelope) (j % envelopeLen slack g)
-
--- n samples of silence in the place of the first n
-abbrev pub muted : ℕ → List Float → List Float
-muted n xs = zeros (min n (length xs)) ++ drop n xs
-
-muted-nil : (n : ℕ) → muted n [] ≡ []
-unfolding zeros table
-muted-nil n = let e : min n 0 ≡ 0 = omega arith in ap (λ (m : ℕ). zeros m ++ drop n []) e ∙ drop-nil n
-
-muted-none : (xs : List Float) → muted 0 xs ≡ xs
-unfolding zeros table
-muted-none xs = let e : min 0 (length xs) ≡ 0 = omega arith in ap (λ (m : ℕ). zeros m ++ xs) e
-
-muted-one : (n : ℕ) (x : Float) (xs : List Float) → muted (suc n) (x ∷ xs) ≡ zero64 ∷ muted n xs
-unfolding zeros
-muted-one n x xs =
-    let e : min (suc n) (suc (length xs)) ≡ suc (min n (length xs)) = omega arith in
-    ap (λ (m : ℕ). zeros m ++ drop n xs) e ∙ ap (λ (l : List Float). l ++ drop n xs) (table-front zero64 (min n (length xs)))
 
 module _ (slack : ℕ) (g : Geometry) (block : ℕ) where
   -- one sample on both sides: the same one, where its block is no earlier than the given one
