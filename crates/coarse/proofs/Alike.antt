@@ -99,7 +99,7 @@ module _ (slack block : ℕ) (w : World) (sum : Float) (b : Buffers) (h : Alike 
 
   -- a bin that is kept, from the block on
   bin-same : (j : ℕ) → block ≤ j → w .scan .far .next ≤ j + envelopeLen slack g → binAt slack g (w .scan .far .next) (b .envelope) j ≡ binAt slack g (w .scan .far .next) (w .buffers .envelope) j
-  bin-same j l c = pick-both (λ (x y : Float). x ≡ y) (ltb j (w .scan .far .next)) _ _ _ _ (λ t. h .heard .bins j l (ltb-true j (w .scan .far .next) t) c) (λ t. refl)
+  bin-same j l c = pick-both (λ (x y : Float). x ≡ y) _ _ _ _ _ (λ t. h .heard .bins j l (ltb-true j (w .scan .far .next) t) c) (λ t. refl)
 
   window-same : full g (w .scan .near) ≡ true → isUncovered slack w ≡ false → windowIn slack v ≡ windowIn slack w
   unfolding windowOf

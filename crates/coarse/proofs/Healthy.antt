@@ -1,21 +1,25 @@
 -- A stream's own state is never broken: every call keeps what `Sound` says, and that is more than `Healthy`.
 use Prim.Native.Nat.{ℕ}
-use mathlib.Core.Path.{_≡_, refl, sym, _∙_, subst}
+use mathlib.Core.Path.{_≡_, refl, sym, ap, _∙_, subst}
 use mathlib.Core.List.{List}
 use mathlib.Core.Bool.{Bool, true}
 use native.Mathlib.Omega.{arith}
+use lib.ListN.{length}
+use borrow.Author.Tests.{eq-eqb}
 use Rattle.answers.specs.Pick.{pick, pick-true, pick-all}
 use Rattle.answers.specs.Refusals.{none, wrongLength, notFinite, tooLarge, frameWaits, noFullFrame}
 use Rattle.floats.proofs.Levels.{AtMost, at-most-finite}
-use Rattle.coarse.specs.State.{World, finished, firstRefusals}
+use Rattle.coarse.specs.Bins.{lags}
+use Rattle.coarse.specs.State.{World, due, finished, firstRefusals}
 use Rattle.coarse.specs.Calls.{isUncovered, isAhead, windowIn, readable, farRefusal, nearRefusal, scoreRefusal, clearRefusal, resetRefusal, reportRefusal, binSamples, ceilingSamples, regionOf, beyondCeiling, isFinished, isExhausted, framesOf, correlationOf}
 use Rattle.coarse.specs.Steps
 use Rattle.coarse.specs.Steps.{Report, «bin_samples», «ceiling_samples», region, «beyond_ceiling», frames, correlation, exhausted, near, score, rearm, discard, reset, ask, Call, far, deed, refusalOf, reported, called}
-use Rattle.coarse.specs.Streams.{Item, after, Fair, Began}
-use Rattle.coarse.specs.Health.{Healthy, StaysHealthy, NeverBroken, NeverUnreadable}
+use Rattle.coarse.specs.Streams.{Item, after, accepted, Fair, Began}
+use Rattle.coarse.specs.Health.{Healthy, StaysHealthy, NeverBroken, NeverUnreadable, RearmsAlways}
 use Rattle.coarse.proofs.Laws.{both-and, either-or, all-finite}
 use Rattle.coarse.proofs.Settings.{allowed}
 use Rattle.coarse.proofs.Sizes.{Size, size-finite}
+use Rattle.coarse.proofs.Scores.{scoreBits}
 use Rattle.coarse.proofs.Sound.{Sound, rules-hold, first-refusals}
 use Rattle.coarse.proofs.Keeps.{window-small}
 use Rattle.coarse.proofs.Fresh.{fresh-sound, began}
@@ -36,7 +40,7 @@ module _ (slack : ℕ) (w : World) (s : Sound slack w) where
         nearSum = at-most-finite (w .scan .near .count) (w .scan .near .sum) (s .near .sum);
         farLevels = all-finite (AtMost 1) (w .buffers .envelope) (at-most-finite 1) (s .far .heard .levels);
         nearLevels = all-finite (AtMost 1) _ (at-most-finite 1) (s .near .levels);
-        lagSums = all-finite (Size (w .scan .verdict .banked) 323) (w .buffers .lagSums) (size-finite (w .scan .verdict .banked) 323) (s .lagSums .sizes);
+        lagSums = all-finite (Size (w .scan .verdict .banked) scoreBits) (w .buffers .lagSums) (size-finite (w .scan .verdict .banked) scoreBits) (s .lagSums .sizes);
       }
 
 -- ---- refusals 1 and 3
@@ -99,6 +103,15 @@ module _ (slack : ℕ) (w : World) (s : Sound slack w) where
       (pick-all Reads _ _ noFullFrame (subst Reads (sym (pick-true _ none notFinite (either-or (isUncovered slack w) _ (λ u. either-or (isAhead w) _ (λ t. readable-frame))))) (omega arith)) (omega arith))
       (subst Reads (sym (first-refusals slack w s _)) (pick-all Reads _ none wrongLength (omega arith) (omega arith))))
 
+  -- ---- the rearm
+
+  rearms : accepted slack w (deed rearm)
+  unfolding called clearRefusal
+  rearms =
+      rearm-number slack w .is
+      ∙ first-refusals slack w s _
+      ∙ pick-true _ none wrongLength (eq-eqb (length (w .buffers .lagSums)) (lags (due (w .scan))) (s .lagSums .length ∙ ap lags (s .allowed .follows)))
+
 -- ---- the statements
 
 pub stays-healthy : StaysHealthy
@@ -109,3 +122,6 @@ never-broken slack rate ceiling w items b f c = fine slack (after slack w items)
 
 pub never-unreadable : NeverUnreadable
 never-unreadable slack rate ceiling w items b f = reads slack (after slack w items) (stays-sound slack rate ceiling w items b f)
+
+pub rearms-always : RearmsAlways
+rearms-always slack rate ceiling w items b f = rearms slack (after slack w items) (stays-sound slack rate ceiling w items b f)

@@ -1,5 +1,5 @@
 -- Every call that a stream may make leaves its state and buffers sound.
-use Prim.Native.Nat.{ℕ, _+_, _-_, _*_, _/_, _<_, zero-le}
+use Prim.Native.Nat.{ℕ, _+_, _*_, _/_, _%_, _<_, zero-le}
 use mathlib.Core.Path.{_≡_, refl, sym, ap, _∙_, subst}
 use mathlib.Core.List.{List, [], _∷_}
 use mathlib.Core.Bool.{true, false, true≢false}
@@ -19,9 +19,9 @@ use Rattle.floats.specs.Functions.{zero64}
 use Rattle.floats.proofs.Levels.{AtMost, zero-at-most}
 use Rattle.folds.specs.Sums.{zeros, at}
 use Rattle.coarse.specs.Bins.{envelopeLen, nearLen, windowLen, lags}
-use Rattle.coarse.specs.State.{Buffers, World, newVerdict, finished, full, idle}
+use Rattle.coarse.specs.State.{Buffers, World, finished, full, idle}
 use Rattle.coarse.specs.Blocks.{Seen, gather, dropped, firstBin, summed, levelOf}
-use Rattle.coarse.specs.Scoring.{windowOf, quiet, flat, Ruling, ruling, scoresOf, addScores}
+use Rattle.coarse.specs.Scoring.{binAt, windowOf, quiet, flat, Ruling, ruling, scoresOf, addScores}
 use Rattle.coarse.specs.Calls.{Observation, FarPush, NearPush, Clearing, Restart, allLengths, frameOf, windowIn, isUncovered, isAhead, consumed, withNearVerdict, countedBy, clearing, resetRefusal, wasReset, farRefusal, pushedFar, nearRefusal, pushedNear, scoreRefusal, counted, judged, scoredFrame, observed, clearRefusal, rearmed, discarded}
 use Rattle.coarse.specs.Steps.{Deed, near, score, rearm, discard, reset, ask, Call, far, deed, refusalOf, changes, scores, called}
 use Rattle.coarse.specs.Streams.{AllF32, FairDeed, FairCall, accepted}
@@ -31,7 +31,7 @@ use Rattle.coarse.specs.declared.Verdict.{Verdict}
 use Rattle.coarse.proofs.Laws.{unless-case, both-and, both-left, both-right, All, all-append, all-zeros, all-table, all-at, length-table, length-zeros}
 use Rattle.coarse.proofs.Settings.{Allowed, few, some, wide}
 use Rattle.coarse.proofs.Sizes.{Size, add-size}
-use Rattle.coarse.proofs.Scores.{Readable, scores-size}
+use Rattle.coarse.proofs.Scores.{scoreBits, Readable, scores-size}
 use Rattle.coarse.proofs.Hears.{summed-at-most, block-level, hearAll-accepted, hearAll-length, hearAll-sound}
 use Rattle.coarse.proofs.Sound.{heardIn, seenIn, FarSound, NearSound, SumsSound, Sound}
 use Rattle.coarse.proofs.Accepted.{far-taken, near-taken, scoreable}
@@ -84,17 +84,17 @@ module _ (g : Geometry) (a : Allowed g) where
 
 -- none banked
 pub none-banked : (g : Geometry) → SumsSound g 0 (zeros (lags g))
-none-banked g = record { length = length-zeros (lags g); sizes = all-zeros (Size 0 323) (lags g) (lit≤ tt) }
+none-banked g = record { length = length-zeros (lags g); sizes = all-zeros (Size 0 scoreBits) (lags g) (lit≤ tt) }
 
 -- one more banked
-one-banked : (g : Geometry) (banked : ℕ) (lagSums more : List Float) → banked < 4 → SumsSound g banked lagSums → length more ≡ lags g → All (Size 1 323) more → SumsSound g (banked + 1) (addScores g lagSums more)
+one-banked : (g : Geometry) (banked : ℕ) (lagSums more : List Float) → banked < 4 → SumsSound g banked lagSums → length more ≡ lags g → All (Size 1 scoreBits) more → SumsSound g (banked + 1) (addScores g lagSums more)
 unfolding addScores
 one-banked g banked lagSums more b s e h =
     record {
       length = length-table _ (lags g);
       sizes =
-          all-table (Size (banked + 1) 323) _ (lags g)
-          (λ k l. add-size banked 1 323 (at lagSums k) (at more k) (record { digits = omega arith; small = lit≤ tt }) (all-at (Size banked 323) lagSums k (omega (arith, s .length)) (s .sizes)) (all-at (Size 1 323) more k (omega arith) h));
+          all-table (Size (banked + 1) scoreBits) _ (lags g)
+          (λ k l. add-size banked 1 scoreBits (at lagSums k) (at more k) (record { digits = omega arith; small = lit≤ tt }) (all-at (Size banked scoreBits) lagSums k (omega (arith, s .length)) (s .sizes)) (all-at (Size 1 scoreBits) more k (omega arith) h));
     }
 
 -- ---- every call
@@ -171,14 +171,15 @@ module _ (slack : ℕ) (w : World) (s : Sound slack w) where
       P : Observation → Type 0
       P p = Sound slack (scoreStep p .world)
 
-  pub window-small : All (AtMost 1) (windowIn slack w)
-  unfolding windowOf
-  window-small =
-      all-table (AtMost 1) _ (windowLen g)
-      (λ i l. pick-case (AtMost 1) (ltb _ (w .scan .far .next)) _ _ (λ t. all-at (AtMost 1) (w .buffers .envelope) _ (omega (arith, s .far .length, mod-lt (w .scan .near .first - g .span + i) slots)) (s .far .heard .levels)) (λ t. lit≤ tt))
+  bin-small : (j : ℕ) → AtMost 1 (binAt slack g (w .scan .far .next) (w .buffers .envelope) j)
+  bin-small j = pick-case (AtMost 1) _ _ zero64 (λ t. all-at (AtMost 1) (w .buffers .envelope) (j % envelopeLen slack g) (omega (arith, s .far .length, mod-lt j slots)) (s .far .heard .levels)) (λ t. lit≤ tt)
     where
       slots : 0 < envelopeLen slack g
       slots = omega (arith, wide g (s .allowed))
+
+  pub window-small : All (AtMost 1) (windowIn slack w)
+  unfolding windowOf
+  window-small = all-table (AtMost 1) _ (windowLen g) (λ i l. bin-small _)
 
   frame-readable : scoreRefusal slack w ≡ 0 → Readable g (frameOf w) (windowIn slack w)
   unfolding windowOf
@@ -223,7 +224,7 @@ module _ (slack : ℕ) (w : World) (s : Sound slack w) where
   unfolding called rearmed discarded
   deed-sound (near x index) f = near-sound x index f
   deed-sound score f = score-sound
-  deed-sound rearm f = clear-sound 0 newVerdict (omega arith) refl
+  deed-sound rearm f = clear-sound 0 _ (omega arith) refl
   deed-sound discard f = clear-sound (w .scan .near .first) _ (s .near .first) refl
   deed-sound reset f = reset-fair f
   deed-sound (ask r) f = s

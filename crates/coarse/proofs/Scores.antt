@@ -18,6 +18,10 @@ use Rattle.coarse.proofs.Laws.{All, all-at, all-table, length-table}
 use Rattle.coarse.proofs.Settings.{Allowed, wide, short}
 use Rattle.coarse.proofs.Sizes.{Size, size-finite, mul-size, div-size, mul-at-least, root-at-least, above-floor, level-size, whole-at-least, at-least-size, less-size, total-size}
 
+-- a score is at most 2 ^ scoreBits in size
+abbrev pub scoreBits : ℕ
+scoreBits = 323
+
 -- the levels and the window of a full frame
 pub record Readable (g : Geometry) (levels window : List Float) : Type 0 where
   pub levels-length : length levels ≡ g .frame
@@ -80,15 +84,15 @@ module _ (g : Geometry) (a : Allowed g) (levels window : List Float) (r : Readab
       less-size 284 squares _ (lit≤ tt) (at-least-size 270 284 squares (lit≤ tt) (squares-size k l))
       (div-size 284 0 (square sums) (whole (length levels)) (lit≤ tt) (mul-size 142 142 sums sums (lit≤ tt) (sums-size k l) (sums-size k l)) (whole-at-least (length levels) (omega (arith, r .levels-length, wide g a))))
 
-  score-size : flat levels ≡ false → (k : ℕ) → k ≤ g .span → Size 1 323 (scoreAt levels window k)
+  score-size : flat levels ≡ false → (k : ℕ) → k ≤ g .span → Size 1 scoreBits (scoreAt levels window k)
   unfolding flat scoreAt
   score-size f k l =
       let energy = segmentEnergy window (length levels) k in
-      pick-case (Size 1 323) (le energy energyFloor) zero64 _ (λ t. lit≤ tt)
+      pick-case (Size 1 scoreBits) (le energy energyFloor) zero64 _ (λ t. lit≤ tt)
       (λ t. div-size 283 40 (lagProduct levels window k) _ (lit≤ tt) (product-size k l)
       (root-at-least 40 _ (lit≤ tt) (mul-at-least 40 40 (nearEnergy levels) energy (lit≤ tt) (size-finite 1 297 (nearEnergy levels) near-energy) (size-finite 1 285 energy (energy-size k l))
       (above-floor 1 297 (nearEnergy levels) f near-energy) (above-floor 1 285 energy t (energy-size k l)))))
 
-  pub scores-size : flat levels ≡ false → All (Size 1 323) (scoresOf g levels window)
+  pub scores-size : flat levels ≡ false → All (Size 1 scoreBits) (scoresOf g levels window)
   unfolding scoresOf
-  scores-size f = all-table (Size 1 323) (scoreAt levels window) (lags g) (λ k l. score-size f k (omega arith))
+  scores-size f = all-table (Size 1 scoreBits) (scoreAt levels window) (lags g) (λ k l. score-size f k (omega arith))

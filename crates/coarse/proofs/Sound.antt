@@ -24,6 +24,7 @@ use Rattle.coarse.specs.declared.Verdict.{Verdict}
 use Rattle.coarse.proofs.Laws.{either-or, both-and, All}
 use Rattle.coarse.proofs.Settings.{Allowed, same-geometry}
 use Rattle.coarse.proofs.Sizes.{Size}
+use Rattle.coarse.proofs.Scores.{scoreBits}
 use Rattle.coarse.proofs.Hears.{HeardSound}
 
 abbrev pub heardIn : World → Heard
@@ -52,7 +53,7 @@ pub record VerdictSound (n : Near) (v : Verdict) : Type 0 where
 -- the lag sums are sums of as many scores as frames are banked
 pub record SumsSound (g : Geometry) (banked : ℕ) (lagSums : List Float) : Type 0 where
   pub length : lib.ListN.length lagSums ≡ lags g
-  pub sizes : All (Size banked 323) lagSums
+  pub sizes : All (Size banked scoreBits) lagSums
 
 pub record Sound (slack : ℕ) (w : World) : Type 0 where
   pub allowed : Allowed (w .scan .geometry)

@@ -8,8 +8,8 @@ use Rattle.answers.specs.Refusals.{outsideTable, brokenState, notFinite}
 use Rattle.folds.specs.Sums.{allFinite}
 use Rattle.coarse.specs.State.{World, keepsRules}
 use Rattle.coarse.specs.Calls.{frameOf}
-use Rattle.coarse.specs.Steps.{Call, deed, score, refusalOf, called}
-use Rattle.coarse.specs.Streams.{Item, after, Fair, Began}
+use Rattle.coarse.specs.Steps.{Call, deed, score, rearm, refusalOf, called}
+use Rattle.coarse.specs.Streams.{Item, after, accepted, Fair, Began}
 
 -- the state rules hold, and every running sum, every far level, every near level of the frame under way and every lag sum is finite
 pub record Healthy (w : World) : Type 0 where
@@ -34,3 +34,7 @@ abbrev pub NeverUnreadable : Type 0
 NeverUnreadable =
     (slack rate ceiling : ℕ) (w : World) (items : List Item) → Began slack rate ceiling w → Fair slack w items
     → refusalOf (called slack (after slack w items) (deed score) .response) ≡ notFinite → ⊥
+
+-- so the rearm of demand 3 is never refused
+abbrev pub RearmsAlways : Type 0
+RearmsAlways = (slack rate ceiling : ℕ) (w : World) (items : List Item) → Began slack rate ceiling w → Fair slack w items → accepted slack (after slack w items) (deed rearm)

@@ -2,8 +2,8 @@
 --
 -- Pick any block number B. Suppose there has been no reset since the stream began, each call that is not refused gets the state and buffers as the
 -- calls before left them, the rearm itself was not refused, and every near sample that begins a frame after the rearm carries an index of at least
--- (B + span) x decimation. Then each answer since the rearm is what the rules give from these alone: the settings, far samples numbered
--- B x decimation and up, how many far samples had been accepted, and the calls since the rearm.
+-- (B + span) x decimation. Then each answer and report since the rearm is what the rules give from these alone: the settings, far samples numbered
+-- B x decimation and up, how many far samples had been accepted at each moment, and the calls since the rearm. Earlier finite samples of any kind change nothing.
 use Prim.Native.Nat.{ℕ, _+_, _-_, _*_, _≤_, min}
 use mathlib.Core.Path.{_≡_}
 use mathlib.Core.List.{List, [], _∷_, _++_}
@@ -118,7 +118,7 @@ pub data CleanCall : Type 0 where
   push : ℕ → Bool → List Float → CleanCall
   does : Deed → CleanCall
 
--- the lengths of the buffers that are lent for scoring alone
+-- the lengths of the near envelope and of the buffers that scoring fills: a making is not lent these
 pub record Lengths : Type 0 where
   pub levels : ℕ
   pub window : ℕ
