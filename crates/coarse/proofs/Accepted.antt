@@ -1,9 +1,9 @@
 -- What is known of a call that is not refused: each line of its list of refusals was passed.
 use Prim.Native.Nat.{ℕ, _+_, _≤_, _<_}
-use mathlib.Core.Path.{_≡_, refl, sym, _∙_}
+use mathlib.Core.Path.{_≡_, refl, sym, _∙_, subst}
 use mathlib.Core.List.{List}
 use mathlib.Core.Bool.{Bool, true, false, not}
-use lib.Dec.{leb, ltb}
+use lib.Dec.{leb, ltb, eqb}
 use lib.ListN.{length}
 use lib.Ieee.{Float}
 use lib.Ieee.Scale.{finite}
@@ -13,15 +13,14 @@ use Rattle.answers.specs.Refusals.{none}
 use Rattle.answers.specs.Numbers.{limit}
 use Rattle.answers.proofs.Refusals.{passed, passed-both}
 use Rattle.folds.specs.Sums.{allFinite}
-use Rattle.coarse.specs.Bins.{inTable, geometryOf, nearLen}
-use Rattle.coarse.specs.State.{World, finished, full, due, geometryRule, keepsRules, firstRefusals}
+use Rattle.coarse.specs.Bins.{inTable, geometryOf, envelopeLen, nearLen, windowLen, prefixLen, lags}
+use Rattle.coarse.specs.State.{Buffers, World, finished, full, due, geometryRule, keepsRules, firstRefusals}
 use Rattle.coarse.specs.Blocks.{dropped}
-use Rattle.coarse.specs.Calls.{allLengths, farRefusal, nearRefusal, scoreRefusal, judged}
-use Rattle.coarse.specs.Steps.{near, far}
-use Rattle.coarse.specs.Streams.{accepted}
+use Rattle.coarse.specs.Calls.{allLengths, farRefusal, nearRefusal, scoreRefusal}
+use Rattle.coarse.specs.declared.Geometry.{Geometry}
 use Rattle.coarse.specs.declared.Scan.{Scan}
-use Rattle.coarse.proofs.Laws.{both-left}
-use Rattle.coarse.proofs.Settings.{geometry-by}
+use Rattle.coarse.proofs.Laws.{both-left, both-right}
+use Rattle.coarse.proofs.Settings.{Allowed, geometry-by}
 
 pub record FirstPassed (s : Scan) (judged : Bool) : Type 0 where
   pub inside : inTable (s .geometry .rate) (s .geometry .ceiling) ≡ true
@@ -78,3 +77,29 @@ unfolding scoreRefusal
 scoreable slack w z =
     let a = passed-both (firstRefusals (w .scan) (allLengths slack (due (w .scan)) (w .buffers))) _ z in
     record { lengths = first-passed (w .scan) (allLengths slack (due (w .scan)) (w .buffers)) (a .0) .lengths; full = passed (full (w .scan .geometry) (w .scan .near)) 6 _ (a .1) .0 }
+
+-- the lengths of the buffers that scoring reads and fills, where the geometry is the one that follows from rate and ceiling
+pub record RightLengths (g : Geometry) (b : Buffers) : Type 0 where
+  pub levels : length (b .levels) ≡ nearLen g
+  pub window : length (b .window) ≡ windowLen g
+  pub prefix : length (b .prefix) ≡ prefixLen g
+  pub squares : length (b .squares) ≡ prefixLen g
+  pub scores : length (b .scores) ≡ lags g
+
+pub right-lengths : (slack : ℕ) (w : World) → Allowed (w .scan .geometry) → scoreRefusal slack w ≡ 0 → RightLengths (w .scan .geometry) (w .buffers)
+right-lengths slack w a z =
+    let g = w .scan .geometry in
+    let b = w .buffers in
+    let all : allLengths slack g b ≡ true = subst (λ (h : Geometry). allLengths slack h b ≡ true) (sym (a .follows)) (scoreable slack w z .lengths) in
+    let e₁ = both-right (eqb (length (b .envelope)) (envelopeLen slack g)) _ all in
+    let e₂ = both-right (eqb (length (b .levels)) (nearLen g)) _ e₁ in
+    let e₃ = both-right (eqb (length (b .window)) (windowLen g)) _ e₂ in
+    let e₄ = both-right (eqb (length (b .prefix)) (prefixLen g)) _ e₃ in
+    let e₅ = both-right (eqb (length (b .squares)) (prefixLen g)) _ e₄ in
+    record {
+      levels = eqb-true (length (b .levels)) (nearLen g) (both-left (eqb (length (b .levels)) (nearLen g)) _ e₁);
+      window = eqb-true (length (b .window)) (windowLen g) (both-left (eqb (length (b .window)) (windowLen g)) _ e₂);
+      prefix = eqb-true (length (b .prefix)) (prefixLen g) (both-left (eqb (length (b .prefix)) (prefixLen g)) _ e₃);
+      squares = eqb-true (length (b .squares)) (prefixLen g) (both-left (eqb (length (b .squares)) (prefixLen g)) _ e₄);
+      scores = eqb-true (length (b .scores)) (lags g) (both-left (eqb (length (b .scores)) (lags g)) _ e₅);
+    }

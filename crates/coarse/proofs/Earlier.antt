@@ -7,24 +7,24 @@ use native.Mathlib.Omega.{arith}
 use lib.Dec.{eqb}
 use lib.ListN.{length, length-set}
 use lib.Ieee.{Float}
-use borrow.Author.Tests.{eqb-true, ne-eqb}
+use borrow.Author.Tests.{ne-eqb}
 use Rattle.answers.specs.Pick.{pick, pick-true, pick-false, pick-case}
 use Rattle.answers.specs.Refusals.{none}
 use Rattle.folds.specs.Sums.{allFinite, prefixSums, prefixSquares}
-use Rattle.coarse.specs.Bins.{envelopeLen, nearLen, windowLen, prefixLen, lags}
+use Rattle.coarse.specs.Bins.{windowLen, prefixLen, lags}
 use Rattle.coarse.specs.State.{World, finished}
 use Rattle.coarse.specs.Blocks.{Heard, hearAll, Seen, gather, dropped}
 use Rattle.coarse.specs.Scoring.{windowOf, quiet, flat, scoresOf}
-use Rattle.coarse.specs.Calls.{Observation, FarPush, NearPush, Clearing, Restart, allLengths, frameOf, windowIn, isUncovered, isAhead, clearing, farRefusal, pushedFar, nearRefusal, pushedNear, scoreRefusal, counted, judged, scoredFrame, observed, clearRefusal, rearmed, discarded, resetRefusal, wasReset}
+use Rattle.coarse.specs.Calls.{Observation, FarPush, NearPush, Clearing, Restart, frameOf, windowIn, isUncovered, isAhead, clearing, farRefusal, pushedFar, nearRefusal, pushedNear, scoreRefusal, counted, judged, scoredFrame, observed, clearRefusal, rearmed, discarded, resetRefusal, wasReset}
 use Rattle.coarse.specs.Steps.{Deed, near, score, rearm, discard, reset, ask, Call, far, deed, refusalOf, changes, called}
 use Rattle.coarse.specs.Streams.{Item, own, foreign, after, heard, broughtBy, AllF32, FairDeed, FairCall, Fair, Lengths, lengthsOf}
 use Rattle.coarse.specs.declared.Geometry.{Geometry}
 use Rattle.coarse.specs.declared.Scan.{Scan}
-use Rattle.coarse.proofs.Laws.{unless-case, both-and, both-left, both-right, length-table, finite-append}
+use Rattle.coarse.proofs.Laws.{unless-case, both-and, length-table, finite-append}
 use Rattle.coarse.proofs.Hears.{hearAll-append}
 use Rattle.coarse.proofs.Masked.{f32-append}
 use Rattle.coarse.proofs.Sound.{heardIn, Sound}
-use Rattle.coarse.proofs.Accepted.{scoreable, far-taken}
+use Rattle.coarse.proofs.Accepted.{far-taken, RightLengths, right-lengths}
 use Rattle.coarse.proofs.Contracts.{farStep, nearStep, scoreStep, clearStep, resetStep}
 use Rattle.coarse.proofs.Keeps.{called-sound}
 
@@ -90,29 +90,6 @@ module _ (slack : ℕ) (w : World) (s : Sound slack w) where
       P : NearPush → Type 0
       P p = Passed slack w (nearStep (w .buffers) p .world) []
 
-  -- the lengths that scoring asks for
-  record Judged : Type 0 where
-    window : length (w .buffers .window) ≡ windowLen g
-    prefix : length (w .buffers .prefix) ≡ prefixLen g
-    squares : length (w .buffers .squares) ≡ prefixLen g
-    scores : length (w .buffers .scores) ≡ lags g
-
-  judged-lengths : scoreRefusal slack w ≡ 0 → Judged
-  judged-lengths z =
-      let e₀ : allLengths slack g (w .buffers) ≡ true = subst (λ (h : Geometry). allLengths slack h (w .buffers) ≡ true) (sym (s .allowed .follows)) (scoreable slack w z .lengths) in
-      let b = w .buffers in
-      let e₁ = both-right (eqb (length (b .envelope)) (envelopeLen slack g)) _ e₀ in
-      let e₂ = both-right (eqb (length (b .levels)) (nearLen g)) _ e₁ in
-      let e₃ = both-right (eqb (length (b .window)) (windowLen g)) _ e₂ in
-      let e₄ = both-right (eqb (length (b .prefix)) (prefixLen g)) _ e₃ in
-      let e₅ = both-right (eqb (length (b .squares)) (prefixLen g)) _ e₄ in
-      record {
-        window = eqb-true (length (b .window)) (windowLen g) (both-left (eqb (length (b .window)) (windowLen g)) _ e₂);
-        prefix = eqb-true (length (b .prefix)) (prefixLen g) (both-left (eqb (length (b .prefix)) (prefixLen g)) _ e₃);
-        squares = eqb-true (length (b .squares)) (prefixLen g) (both-left (eqb (length (b .squares)) (prefixLen g)) _ e₄);
-        scores = eqb-true (length (b .scores)) (lags g) (both-left (eqb (length (b .scores)) (lags g)) _ e₅);
-      }
-
   abbrev Consumes : Observation → Type 0
   Consumes p = Passed slack w (scoreStep p .world) []
 
@@ -123,7 +100,7 @@ module _ (slack : ℕ) (w : World) (s : Sound slack w) where
       (lengthsOf (w .buffers))
   windowed window e = λ i. record { levels = length (w .buffers .levels); window = e i; prefix = length (w .buffers .prefix); squares = length (w .buffers .squares); scores = length (w .buffers .scores) }
 
-  counted-passes : Judged → (levels window : List Float) → length window ≡ windowLen g → Consumes (counted w levels window)
+  counted-passes : RightLengths g (w .buffers) → (levels window : List Float) → length window ≡ windowLen g → Consumes (counted w levels window)
   unfolding counted scoresOf prefixSums prefixSquares
   counted-passes j levels window e =
       let p : length window + 1 ≡ prefixLen g = omega arith in
@@ -133,7 +110,7 @@ module _ (slack : ℕ) (w : World) (s : Sound slack w) where
       let scores-length = length-table _ (lags g) ∙ sym (j .scores) in
       still slack w _ refl refl (λ i. record { levels = length (w .buffers .levels); window = window-length i; prefix = prefix-length i; squares = squares-length i; scores = scores-length i })
 
-  judged-passes : Judged → (levels window : List Float) → length window ≡ windowLen g → Consumes (judged w levels window)
+  judged-passes : RightLengths g (w .buffers) → (levels window : List Float) → length window ≡ windowLen g → Consumes (judged w levels window)
   unfolding judged
   judged-passes j levels window e =
       pick-case Consumes (quiet window) _ _ (λ t. still slack w _ refl refl (windowed window (e ∙ sym (j .window)))) (λ t. pick-case Consumes (flat levels) _ _ (λ u. still slack w _ refl refl (windowed window (e ∙ sym (j .window)))) (λ u. counted-passes j levels window e))
@@ -143,7 +120,7 @@ module _ (slack : ℕ) (w : World) (s : Sound slack w) where
   score-passes =
       unless-case Consumes (scoreRefusal slack w) _ _ (λ r. same)
       (λ z. pick-case Consumes (isUncovered slack w) _ _ (λ t. still slack w _ refl refl refl)
-      (λ t. pick-case Consumes (isAhead w) _ _ (λ u. still slack w _ refl refl refl) (λ u. judged-passes (judged-lengths z) (frameOf w) (windowIn slack w) (length-window slack w))))
+      (λ t. pick-case Consumes (isAhead w) _ _ (λ u. still slack w _ refl refl refl) (λ u. judged-passes (right-lengths slack w (s .allowed) z) (frameOf w) (windowIn slack w) (length-window slack w))))
 
   clear-passes : (cleared : Scan) → cleared .geometry ≡ g → cleared .far ≡ w .scan .far → Passed slack w (clearStep (w .buffers) (clearing (w .scan) (w .buffers .lagSums) cleared) .world) []
   clear-passes cleared e f =

@@ -18,23 +18,23 @@ use Rattle.answers.specs.Numbers.{limit}
 use Rattle.floats.specs.Functions.{zero64}
 use Rattle.floats.proofs.Levels.{AtMost, zero-at-most}
 use Rattle.folds.specs.Sums.{zeros, at}
-use Rattle.coarse.specs.Bins.{envelopeLen, nearLen, windowLen, lags}
+use Rattle.coarse.specs.Bins.{envelopeLen, windowLen, lags}
 use Rattle.coarse.specs.State.{Buffers, World, finished, full, idle}
 use Rattle.coarse.specs.Blocks.{Seen, gather, dropped, firstBin, summed, levelOf}
 use Rattle.coarse.specs.Scoring.{binAt, windowOf, quiet, flat, Ruling, ruling, scoresOf, addScores}
-use Rattle.coarse.specs.Calls.{Observation, FarPush, NearPush, Clearing, Restart, allLengths, frameOf, windowIn, isUncovered, isAhead, consumed, withNearVerdict, countedBy, clearing, resetRefusal, wasReset, farRefusal, pushedFar, nearRefusal, pushedNear, scoreRefusal, counted, judged, scoredFrame, observed, clearRefusal, rearmed, discarded}
+use Rattle.coarse.specs.Calls.{Observation, FarPush, NearPush, Clearing, Restart, frameOf, windowIn, isUncovered, isAhead, consumed, withNearVerdict, countedBy, clearing, resetRefusal, wasReset, farRefusal, pushedFar, nearRefusal, pushedNear, scoreRefusal, counted, judged, scoredFrame, observed, clearRefusal, rearmed, discarded}
 use Rattle.coarse.specs.Steps.{Deed, near, score, rearm, discard, reset, ask, Call, far, deed, refusalOf, changes, scores, called}
 use Rattle.coarse.specs.Streams.{AllF32, FairDeed, FairCall, accepted}
 use Rattle.coarse.specs.declared.Geometry.{Geometry}
 use Rattle.coarse.specs.declared.Near.{Near}
 use Rattle.coarse.specs.declared.Verdict.{Verdict}
-use Rattle.coarse.proofs.Laws.{unless-case, both-and, both-left, both-right, All, all-append, all-zeros, all-table, all-at, length-table, length-zeros}
+use Rattle.coarse.proofs.Laws.{unless-case, both-and, All, all-append, all-zeros, all-table, all-at, length-table, length-zeros}
 use Rattle.coarse.proofs.Settings.{Allowed, few, some, wide}
 use Rattle.coarse.proofs.Sizes.{Size, add-size}
 use Rattle.coarse.proofs.Scores.{scoreBits, Readable, scores-size}
 use Rattle.coarse.proofs.Hears.{summed-at-most, block-level, hearAll-accepted, hearAll-length, hearAll-sound}
 use Rattle.coarse.proofs.Sound.{heardIn, seenIn, FarSound, NearSound, SumsSound, Sound}
-use Rattle.coarse.proofs.Accepted.{far-taken, near-taken, scoreable}
+use Rattle.coarse.proofs.Accepted.{far-taken, near-taken, scoreable, right-lengths}
 use Rattle.coarse.proofs.Contracts.{farStep, nearStep, scoreStep, clearStep, resetStep}
 
 -- ---- one near sample
@@ -184,11 +184,13 @@ module _ (slack : ℕ) (w : World) (s : Sound slack w) where
   frame-readable : scoreRefusal slack w ≡ 0 → Readable g (frameOf w) (windowIn slack w)
   unfolding windowOf
   frame-readable z =
-      let c = scoreable slack w z in
-      let e = subst (λ (h : Geometry). allLengths slack h (w .buffers) ≡ true) (sym (s .allowed .follows)) (c .lengths) in
-      let l = eqb-true (length (w .buffers .levels)) (nearLen g) (both-left _ _ (both-right (eqb (length (w .buffers .envelope)) (envelopeLen slack g)) _ e)) in
-      let f = eqb-true (w .scan .near .len) (g .frame) (c .full) in
-      record { levels-length = omega (arith, length-take (w .scan .near .len) (w .buffers .levels), l, f); window-length = length-table _ (windowLen g); levels-small = s .near .levels; window-small = window-small }
+      let f = eqb-true (w .scan .near .len) (g .frame) (scoreable slack w z .full) in
+      record {
+        levels-length = omega (arith, length-take (w .scan .near .len) (w .buffers .levels), right-lengths slack w (s .allowed) z .levels, f);
+        window-length = length-table _ (windowLen g);
+        levels-small = s .near .levels;
+        window-small = window-small;
+      }
 
   score-sound : Sound slack (scoreStep (observed slack w) .world)
   unfolding observed scoredFrame

@@ -16,7 +16,7 @@ use Rattle.coarse.specs.Scoring.{energyFloor, meanOf, centred, nearEnerg
 use Rattle.coarse.specs.declared.Geometry.{Geometry}
 use Rattle.coarse.proofs.Laws.{All, all-at, all-table, length-table}
 use Rattle.coarse.proofs.Settings.{Allowed, wide, short}
-use Rattle.coarse.proofs.Sizes.{Size, size-finite, mul-size, div-size, mul-at-least, root-at-least, above-floor, level-size, whole-at-least, at-least-size, less-size, total-size}
+use Rattle.coarse.proofs.Sizes.{Size, size-finite, mul-size, div-size, mul-at-least, root-at-least, above-floor, level-size, whole-at-least, looser, difference-size, total-size}
 
 -- a score is at most 2 ^ scoreBits in size
 abbrev pub scoreBits : ℕ
@@ -45,7 +45,7 @@ module _ (g : Geometry) (a : Allowed g) (levels window : List Float) (r : Readab
   centred-size : (i : ℕ) → i < length levels → Size 1 142 (centred levels i)
   unfolding meanOf
   centred-size i l =
-      less-size 141 (at levels i) (meanOf levels) (lit≤ tt) (at-least-size 128 141 (at levels i) (lit≤ tt) (level-at i l))
+      difference-size 141 (at levels i) (meanOf levels) (lit≤ tt) (looser 128 141 (at levels i) (lit≤ tt) (level-at i l))
       (div-size 141 0 (sumOf levels) (whole (length levels)) (lit≤ tt) (total-size 128 (at levels) (length levels) (lit≤ tt) levels-few level-at) (whole-at-least (length levels) (omega arith)))
 
   near-energy : Size 1 297 (nearEnergy levels)
@@ -61,7 +61,7 @@ module _ (g : Geometry) (a : Allowed g) (levels window : List Float) (r : Readab
   -- the difference of two prefix values
   across-size : (e : ℕ) (f : ℕ → Float) (k : ℕ) → e ≤ 880 → k ≤ g .span → ((i : ℕ) → i < length window → Size 1 e (f i)) → Size 1 (e + 13 + 1) (across (table (upto f) (length window + 1)) (length levels) k)
   across-size e f k b l h =
-      less-size (e + 13) _ _ (omega arith) (prefix-at (k + length levels) (omega (arith, r .levels-length, r .window-length))) (prefix-at k (omega (arith, r .window-length)))
+      difference-size (e + 13) _ _ (omega arith) (prefix-at (k + length levels) (omega (arith, r .levels-length, r .window-length))) (prefix-at k (omega (arith, r .window-length)))
     where
       prefix-at : (i : ℕ) → i < length window + 1 → Size 1 (e + 13) (at (table (upto f) (length window + 1)) i)
       prefix-at i j =
@@ -81,7 +81,7 @@ module _ (g : Geometry) (a : Allowed g) (levels window : List Float) (r : Readab
   energy-size k l =
       let sums = across (prefixSums window) (length levels) k in
       let squares = across (prefixSquares window) (length levels) k in
-      less-size 284 squares _ (lit≤ tt) (at-least-size 270 284 squares (lit≤ tt) (squares-size k l))
+      difference-size 284 squares _ (lit≤ tt) (looser 270 284 squares (lit≤ tt) (squares-size k l))
       (div-size 284 0 (square sums) (whole (length levels)) (lit≤ tt) (mul-size 142 142 sums sums (lit≤ tt) (sums-size k l) (sums-size k l)) (whole-at-least (length levels) (omega (arith, r .levels-length, wide g a))))
 
   score-size : flat levels ≡ false → (k : ℕ) → k ≤ g .span → Size 1 scoreBits (scoreAt levels window k)

@@ -294,11 +294,11 @@ whole-at-least n p = round-at-least 0 (lit≤ tt) n 1 (lit< tt) (omega arith)
 
 -- ---- in powers of two
 
-pub at-least-size : (k j : ℕ) (x : Float) → k ≤ j → Size 1 k x → Size 1 j x
-at-least-size k j x l h = wider 1 k 1 j x (mul-le-mul-left 1 (pow-mono l)) h
+pub looser : (k j : ℕ) (x : Float) → k ≤ j → Size 1 k x → Size 1 j x
+looser k j x l h = wider 1 k 1 j x (mul-le-mul-left 1 (pow-mono l)) h
 
-pub less-size : (k : ℕ) (x y : Float) → k ≤ 900 → Size 1 k x → Size 1 k y → Size 1 (k + 1) (sub binary64 x y)
-less-size k x y l h j = wider 2 k 1 (k + 1) (sub binary64 x y) (le-of-eq (twice (2 ^ k) (2 ^ (k + 1)) (pow-add 2 k 1))) (sub-size 1 1 k x y (record { digits = lit< tt; small = l }) h j)
+pub difference-size : (k : ℕ) (x y : Float) → k ≤ 900 → Size 1 k x → Size 1 k y → Size 1 (k + 1) (sub binary64 x y)
+difference-size k x y l h j = wider 2 k 1 (k + 1) (sub binary64 x y) (le-of-eq (twice (2 ^ k) (2 ^ (k + 1)) (pow-add 2 k 1))) (sub-size 1 1 k x y (record { digits = lit< tt; small = l }) h j)
   where
     twice : (w z : ℕ) → z ≡ w * 2 ^ 1 → 2 * w ≡ 1 * z
     twice w z e = omega arith
