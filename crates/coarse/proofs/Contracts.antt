@@ -1,12 +1,15 @@
 -- A call, from what the contract of its function says of the result and the lent buffers. What a function hands back is what its contract's right-hand side gives, so that a
 -- host's calls, each handed what the last returned, are the steps of `called`.
 use Prim.Native.Nat.{ℕ}
-use mathlib.Core.Path.{_≡_, ap}
+use mathlib.Core.Path.{_≡_, refl, ap}
 use mathlib.Core.List.{List}
 use lib.Ieee.{Float}
 use Rattle.coarse.specs.State.{Buffers, World}
-use Rattle.coarse.specs.Calls.{Observation, FarPush, NearPush, Clearing, Restart, made, wasReset, pushedFar, pushedNear, observed, rearmed, discarded}
-use Rattle.coarse.specs.Steps.{Report, Response, reported, near, score, rearm, discard, reset, ask, far, deed, changes, takes, scores, Step, step, withEnvelope, withLevels, withLagSums, called, making}
+use Rattle.coarse.specs.Calls.{Observation, FarPush, NearPush, Clearing, Restart, made, resetRefusal, wasReset, pushedFar, pushedNear, observed, rearmed, discarded}
+use Rattle.coarse.specs.Steps.{Report, Response, reported, near, score, rearm, discard, reset, ask, far, deed, refusalOf, changes, takes, scores, Step, step, withEnvelope, withLevels, withLagSums, called, making}
+use Rattle.answers.specs.Refusals.{none}
+use Rattle.coarse.specs.Streams.{refused}
+use Rattle.coarse.proofs.Laws.{unless-case}
 
 abbrev pub farStep : Buffers → FarPush → Step
 farStep b p = step (changes (p .changed .answer)) (p .changed .scan) (withEnvelope b (p .envelope))
@@ -22,6 +25,12 @@ clearStep b p = step (changes (p .changed .answer)) (p .changed .scan) (withLagS
 
 abbrev pub resetStep : Buffers → Restart → Step
 resetStep b p = step (changes (p .changed .answer)) (p .changed .scan) (withLagSums (withEnvelope b (p .envelope)) (p .lagSums))
+
+-- a reset that is refused changes nothing
+pub reset-unchanged : (slack : ℕ) (w : World) → refused slack w (deed reset) → called slack w (deed reset) .world ≡ w
+unfolding called wasReset
+reset-unchanged slack w =
+    unless-case (λ (p : Restart). (refusalOf (changes (p .changed .answer)) ≡ none → ⊥) → resetStep (w .buffers) p .world ≡ w) (resetRefusal slack (w .scan) (w .buffers .envelope) (w .buffers .lagSums)) _ _ (λ r f. refl) (λ z f. absurd (f refl))
 
 -- ---- each call, for the result p of its function
 

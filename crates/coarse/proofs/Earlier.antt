@@ -15,7 +15,7 @@ use Rattle.coarse.specs.Bins.{windowLen, prefixLen, lags}
 use Rattle.coarse.specs.State.{World, finished}
 use Rattle.coarse.specs.Blocks.{Heard, hearAll, Seen, gather, dropped}
 use Rattle.coarse.specs.Scoring.{windowOf, quiet, flat, scoresOf}
-use Rattle.coarse.specs.Calls.{Observation, FarPush, NearPush, Clearing, Restart, frameOf, windowIn, isUncovered, isAhead, clearing, farRefusal, pushedFar, nearRefusal, pushedNear, scoreRefusal, counted, judged, scoredFrame, observed, clearRefusal, rearmed, discarded, resetRefusal, wasReset}
+use Rattle.coarse.specs.Calls.{Observation, FarPush, NearPush, Clearing, frameOf, windowIn, isUncovered, isAhead, clearing, farRefusal, pushedFar, nearRefusal, pushedNear, scoreRefusal, counted, judged, scoredFrame, observed, clearRefusal, rearmed, discarded}
 use Rattle.coarse.specs.Steps.{Deed, near, score, rearm, discard, reset, ask, Call, far, deed, refusalOf, changes, called}
 use Rattle.coarse.specs.Streams.{Item, own, foreign, after, heard, broughtBy, AllF32, FairDeed, FairCall, Fair, Lengths, lengthsOf}
 use Rattle.coarse.specs.declared.Geometry.{Geometry}
@@ -25,7 +25,7 @@ use Rattle.coarse.proofs.Hears.{hearAll-append}
 use Rattle.coarse.proofs.Masked.{f32-append}
 use Rattle.coarse.proofs.Sound.{heardIn, Sound}
 use Rattle.coarse.proofs.Accepted.{far-taken, RightLengths, right-lengths}
-use Rattle.coarse.proofs.Contracts.{farStep, nearStep, scoreStep, clearStep, resetStep}
+use Rattle.coarse.proofs.Contracts.{farStep, nearStep, scoreStep, clearStep, reset-unchanged}
 use Rattle.coarse.proofs.Keeps.{called-sound}
 
 -- from w to v, with these far samples accepted on the way
@@ -127,18 +127,12 @@ module _ (slack : ℕ) (w : World) (s : Sound slack w) where
       unless-case (λ (p : Clearing). Passed slack w (clearStep (w .buffers) p .world) []) (clearRefusal (w .scan) (w .buffers .lagSums)) _ _ (λ r. same)
       (λ z. still slack w _ e (λ i. record { far = f i; envelope = w .buffers .envelope }) refl)
 
-  reset-passes : FairDeed slack w reset → Passed slack w (called slack w (deed reset) .world) []
-  unfolding called wasReset
-  reset-passes =
-      unless-case (λ (p : Restart). (refusalOf (changes (p .changed .answer)) ≡ none → ⊥) → Passed slack w (resetStep (w .buffers) p .world) []) (resetRefusal slack (w .scan) (w .buffers .envelope) (w .buffers .lagSums)) _ _
-      (λ r f. same) (λ z f. absurd (f refl))
-
   deed-passes : (d : Deed) → FairDeed slack w d → Passed slack w (called slack w (deed d) .world) []
   deed-passes (near x index) f = near-passes x index
   deed-passes score f = (unfold called in score-passes)
   deed-passes rearm f = (unfold called rearmed in clear-passes _ refl refl)
   deed-passes discard f = (unfold called discarded in clear-passes _ refl refl)
-  deed-passes reset f = reset-passes f
+  deed-passes reset f = subst (λ (v : World). Passed slack w v []) (sym (reset-unchanged slack w f)) same
   deed-passes (ask r) f = (unfold called in same)
 
   pub call-passes : (c : Call) → FairCall slack w c → Passed slack w (called slack w c .world) (broughtBy slack w c)

@@ -22,8 +22,8 @@ use Rattle.coarse.specs.Bins.{envelopeLen, windowLen, lags}
 use Rattle.coarse.specs.State.{Buffers, World, finished, full, idle}
 use Rattle.coarse.specs.Blocks.{Seen, gather, dropped, firstBin, summed, levelOf}
 use Rattle.coarse.specs.Scoring.{binAt, windowOf, quiet, flat, Ruling, ruling, scoresOf, addScores}
-use Rattle.coarse.specs.Calls.{Observation, FarPush, NearPush, Clearing, Restart, frameOf, windowIn, isUncovered, isAhead, consumed, withNearVerdict, countedBy, clearing, resetRefusal, wasReset, farRefusal, pushedFar, nearRefusal, pushedNear, scoreRefusal, counted, judged, scoredFrame, observed, clearRefusal, rearmed, discarded}
-use Rattle.coarse.specs.Steps.{Deed, near, score, rearm, discard, reset, ask, Call, far, deed, refusalOf, changes, scores, called}
+use Rattle.coarse.specs.Calls.{Observation, FarPush, NearPush, Clearing, frameOf, windowIn, isUncovered, isAhead, consumed, withNearVerdict, countedBy, clearing, farRefusal, pushedFar, nearRefusal, pushedNear, scoreRefusal, counted, judged, scoredFrame, observed, clearRefusal, rearmed, discarded}
+use Rattle.coarse.specs.Steps.{Deed, near, score, rearm, discard, reset, ask, Call, far, deed, scores, called}
 use Rattle.coarse.specs.Streams.{AllF32, FairDeed, FairCall, accepted}
 use Rattle.coarse.specs.declared.Geometry.{Geometry}
 use Rattle.coarse.specs.declared.Near.{Near}
@@ -35,7 +35,7 @@ use Rattle.coarse.proofs.Scores.{scoreBits, Readable, scores-size}
 use Rattle.coarse.proofs.Hears.{summed-at-most, block-level, hearAll-accepted, hearAll-length, hearAll-sound}
 use Rattle.coarse.proofs.Sound.{heardIn, seenIn, FarSound, NearSound, SumsSound, Sound}
 use Rattle.coarse.proofs.Accepted.{far-taken, near-taken, scoreable, right-lengths}
-use Rattle.coarse.proofs.Contracts.{farStep, nearStep, scoreStep, clearStep, resetStep}
+use Rattle.coarse.proofs.Contracts.{farStep, nearStep, scoreStep, clearStep, reset-unchanged}
 
 -- ---- one near sample
 
@@ -216,19 +216,13 @@ module _ (slack : ℕ) (w : World) (s : Sound slack w) where
         lagSums = subst (λ (n : ℕ). SumsSound g n (zeros (lags g))) (sym k) (none-banked g);
       })
 
-  reset-fair : FairDeed slack w reset → Sound slack (resetStep (w .buffers) (wasReset slack (w .scan) (w .buffers .envelope) (w .buffers .lagSums)) .world)
-  unfolding called wasReset
-  reset-fair =
-      unless-case (λ (p : Restart). (refusalOf (changes (p .changed .answer)) ≡ none → ⊥) → Sound slack (resetStep (w .buffers) p .world)) (resetRefusal slack (w .scan) (w .buffers .envelope) (w .buffers .lagSums)) _ _
-      (λ r f. s) (λ z f. absurd (f refl))
-
   deed-sound : (d : Deed) → FairDeed slack w d → Sound slack (called slack w (deed d) .world)
   unfolding called rearmed discarded
   deed-sound (near x index) f = near-sound x index f
   deed-sound score f = score-sound
   deed-sound rearm f = clear-sound 0 _ (omega arith) refl
   deed-sound discard f = clear-sound (w .scan .near .first) _ (s .near .first) refl
-  deed-sound reset f = reset-fair f
+  deed-sound reset f = subst (Sound slack) (sym (reset-unchanged slack w f)) s
   deed-sound (ask r) f = s
 
   pub called-sound : (c : Call) → FairCall slack w c → Sound slack (called slack w c .world)
