@@ -6,3 +6,4 @@ pub mod Scoring
 pub mod Calls
 pub mod Steps
 pub mod Streams
+pub mod Health

@@ -1,0 +1,16 @@
+pub mod Laws
+pub mod Settings
+pub mod Sizes
+pub mod Scores
+pub mod Masked
+pub mod Hears
+pub mod Sound
+pub mod Accepted
+pub mod Contracts
+pub mod Numbered
+pub mod Keeps
+pub mod Fresh
+pub mod Earlier
+pub mod Healthy
+pub mod Alike
+pub mod Forgets

@@ -1,0 +1,101 @@
+-- Samples that nobody may look at, and what stands in their place: as many, finite where they are, and silent.
+use Prim.Native.Nat.{min, suc, zero, ℕ}
+use Rattle.answers.specs.Pick.{both, pick}
+use Rattle.coarse.proofs.Laws.{all-finite, all-zeros, both-left, finite-append, length-table, length-zeros, table-front}
+use Rattle.coarse.specs.Calls.{judged}
+use Rattle.coarse.specs.Streams.{AllF32, unheard}
+use Rattle.floats.specs.Functions.{zero64}
+use Rattle.folds.specs.Sums.{allFinite, at, table, zeros}
+use lib.Dec.{T}
+use lib.Ieee.{Float, binary32, fits, nan}
+use lib.Ieee.Fits.{nan-fits}
+use lib.Ieee.Scale.{finite}
+use lib.ListN.{drop, length, length-append, length-drop, length-take, take, take-append-drop}
+use lib.Seq.{drop-nil}
+use mathlib.Core.Bool.{Bool, false, not, true}
+use mathlib.Core.List.{List, [], _++_, _∷_}
+use mathlib.Core.Path.{_∙_, _≡_, ap, refl, sym}
+use native.Mathlib.Omega.{arith}
+
+-- ---- samples of the type f32
+
+pub f32-append : (xs ys : List Float) → AllF32 xs → AllF32 ys → AllF32 (xs ++ ys)
+f32-append [] ys h k = k
+f32-append (x ∷ xs) ys h k = (h .0, f32-append xs ys (h .1) k)
+
+f32-table : (x : Float) (n : ℕ) → T (fits binary32 x) → AllF32 (table (λ i. x) n)
+unfolding table
+f32-table x zero h = tt
+f32-table x (suc n) h = f32-append (table (λ i. x) n) (x ∷ []) (f32-table x n h) (h, tt)
+
+f32-drop : (n : ℕ) (xs : List Float) → AllF32 xs → AllF32 (drop n xs)
+f32-drop zero xs h = h
+f32-drop (suc n) [] h = h
+f32-drop (suc n) (x ∷ xs) h = f32-drop n xs (h .1)
+
+-- ---- silence
+
+-- n samples of silence in the place of the first n
+abbrev pub muted : ℕ → List Float → List Float
+muted n xs = zeros (min n (length xs)) ++ drop n xs
+
+pub muted-nil : (n : ℕ) → muted n [] ≡ []
+unfolding zeros table
+muted-nil n = let e : min n 0 ≡ 0 = omega arith in ap (λ (m : ℕ). zeros m ++ drop n []) e ∙ drop-nil n
+
+pub muted-none : (xs : List Float) → muted 0 xs ≡ xs
+unfolding zeros table
+muted-none xs = let e : min 0 (length xs) ≡ 0 = omega arith in ap (λ (m : ℕ). zeros m ++ xs) e
+
+pub muted-one : (n : ℕ) (x : Float) (xs : List Float) → muted (suc n) (x ∷ xs) ≡ zero64 ∷ muted n xs
+unfolding zeros
+muted-one n x xs =
+    let e : min (suc n) (suc (length xs)) ≡ suc (min n (length xs)) = omega arith in
+    ap (λ (m : ℕ). zeros m ++ drop n xs) e ∙ ap (λ (l : List Float). l ++ drop n xs) (table-front zero64 (min n (length xs)))
+
+-- ---- samples that nobody may look at
+
+-- they are finite where those in whose place they stand are
+unheard-finite : (xs : List Float) → allFinite (unheard (length xs) (allFinite xs)) ≡ allFinite xs
+unheard-finite [] = (unfold allFinite zeros table in refl)
+unheard-finite (x ∷ xs) = go (allFinite (x ∷ xs))
+  where
+    go : (fine : Bool) → allFinite (unheard (suc (length xs)) fine) ≡ fine
+    go true = all-finite (λ z. finite z ≡ true) _ (λ z e. e) (all-zeros _ (suc (length xs)) refl)
+    go false = ap allFinite (table-front nan (length xs)) ∙ (unfold allFinite pick in refl)
+
+length-unheard : (n : ℕ) (fine : Bool) → length (unheard n fine) ≡ n
+length-unheard n true = length-zeros n
+length-unheard n false = length-table _ n
+
+unheard-f32 : (n : ℕ) (fine : Bool) → AllF32 (unheard n fine)
+unheard-f32 n true = (unfold zeros in f32-table zero64 n (unfold fits in tt))
+unheard-f32 n false = f32-table nan n (nan-fits binary32)
+
+-- the first n masked: silent, or NaNs where one of them is not finite
+abbrev pub masked : ℕ → List Float → List Float
+masked n xs = unheard (min n (length xs)) (allFinite (take n xs)) ++ drop n xs
+
+module _ (n : ℕ) (xs : List Float) where
+  abbrev front : List Float
+  front = unheard (min n (length xs)) (allFinite (take n xs))
+
+  split-finite : both (allFinite (take n xs)) (allFinite (drop n xs)) ≡ allFinite xs
+  split-finite = sym (finite-append (take n xs) (drop n xs)) ∙ ap allFinite (take-append-drop n xs)
+
+  -- what a push is judged by stays
+  pub masked-length : length (masked n xs) ≡ length xs
+  masked-length = omega (arith, length-append front (drop n xs), length-unheard (min n (length xs)) (allFinite (take n xs)), length-drop n xs)
+
+  pub masked-finite : allFinite (masked n xs) ≡ allFinite xs
+  masked-finite =
+      finite-append front (drop n xs)
+      ∙ ap (λ (t : Bool). both t (allFinite (drop n xs))) (ap (λ (m : ℕ). allFinite (unheard m (allFinite (take n xs)))) (sym (length-take n xs)) ∙ unheard-finite (take n xs))
+      ∙ split-finite
+
+  pub masked-f32 : AllF32 xs → AllF32 (masked n xs)
+  masked-f32 t = f32-append front (drop n xs) (unheard-f32 (min n (length xs)) (allFinite (take n xs))) (f32-drop n xs t)
+
+  -- of finite samples the first n are silent
+  pub masked-muted : allFinite xs ≡ true → masked n xs ≡ muted n xs
+  masked-muted f = ap (λ (t : Bool). unheard (min n (length xs)) t ++ drop n xs) (both-left (allFinite (take n xs)) (allFinite (drop n xs)) (split-finite ∙ f))
