@@ -1,2 +1,3 @@
 pub mod Finite
 pub mod Clearing
+pub mod Laws
