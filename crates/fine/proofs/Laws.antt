@@ -1,22 +1,23 @@
 -- Laws of the state: what holds of one that no call refuses with 1 or 3, and that it goes on to hold.
 use Prim.Native.Nat.{ℕ, _+_, _-_, _≤_, _<_}
-use mathlib.Core.Path.{_≡_, refl, sym, _∙_}
+use mathlib.Core.Path.{_≡_, refl, sym, ap, _∙_}
 use mathlib.Core.Bool.{Bool, true, false, false≢true}
 use native.Mathlib.Omega.{arith}
 use lib.Dec.{leb, ltb, eqb}
-use mir.Syntax.{w64}
+use mir.Syntax.{w32, w64}
 use mir.Val.{Fits}
 use borrow.Author.Tests.{leb-true, ltb-true, eqb-true, le-leb, lt-ltb, eq-eqb}
 use Rattle.answers.specs.Pick.{pick, pick-true, pick-case, both}
 use Rattle.answers.specs.Numbers.{limit, allowedSpan}
 use Rattle.answers.proofs.Refusals.{passed, passed-both}
-use Rattle.fine.specs.State.{Sound, transformOf, frameOf, lengthsOf, sameLengths, newWith, spanOf, keepsRules, firstRefusals}
+use Rattle.fine.specs.State.{Sound, transformOf, frameOf, windowOf, lengthsOf, sameLengths, newWith, spanOf, keepsRules, firstRefusals}
 use Rattle.fine.specs.Calls.{changed, makingRefusal, made, stateRefusal, restartedAt, restarted, relocateRefusal, relocated, wasReset}
 use Rattle.units.specs.declared.Samples.{Samples}
 use Rattle.fine.specs.declared.Changed.{Changed}
 use Rattle.fine.specs.declared.Fine.{Fine}
+use Rattle.fine.specs.declared.Lengths.{Lengths}
 
-both-hold : (a b : Bool) → both a b ≡ true → (a ≡ true) × (b ≡ true)
+pub both-hold : (a b : Bool) → both a b ≡ true → (a ≡ true) × (b ≡ true)
 unfolding pick
 both-hold true b e = (refl, e)
 both-hold false b e = absurd (false≢true e)
@@ -46,6 +47,18 @@ accepted s fitting e =
 pub transform-most : (span : ℕ) → transformOf span ≤ 65536
 unfolding transformOf
 transform-most span = omega arith
+
+-- what `Lengths::of` gives
+module _ (span : ℕ) (due : Lengths) (e : due ≡ lengthsOf span) where
+  pub due-frame : due .frame ≡ frameOf span
+  unfolding lengthsOf
+  due-frame = ap (λ (l : Lengths). l .frame) e
+
+  pub due-window : due .frame + span ≡ windowOf span
+  due-window = ap (λ (n : ℕ). n + span) due-frame
+
+  pub due-window-fits : Fits w32 span → Fits w64 (due .frame + span)
+  due-window-fits f = omega (arith, due-frame, transform-most span, f)
 
 -- ---- a state that keeps the rules keeps them: each call hands back one that does
 
