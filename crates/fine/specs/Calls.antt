@@ -119,3 +119,29 @@ lastScanRatio s = unless (stateRefusal s) (ratioReport.Refused (stateRefusal s))
 
 unfoldable pub lastScanPeakAt : Fine → PositionReport
 lastScanPeakAt s = unless (stateRefusal s) (positionReport.Refused (stateRefusal s)) (positionReport.Is (s .scans .«peak_at»))
+
+-- ---- the refusal number of an answer, and none of one that is no refusal
+
+abbrev pub changeNumber : Change → ℕ
+changeNumber (change.Refused n) = n
+changeNumber change.Done = none
+
+abbrev pub samplesNumber : SamplesReport → ℕ
+samplesNumber (samplesReport.Refused n) = n
+samplesNumber (samplesReport.Is d) = none
+
+abbrev pub rangeNumber : RangeReport → ℕ
+rangeNumber (rangeReport.Refused n) = n
+rangeNumber (rangeReport.Is r) = none
+
+abbrev pub countNumber : CountReport → ℕ
+countNumber (countReport.Refused n) = n
+countNumber (countReport.Is k) = none
+
+abbrev pub ratioNumber : RatioReport → ℕ
+ratioNumber (ratioReport.Refused n) = n
+ratioNumber (ratioReport.Is x) = none
+
+abbrev pub positionNumber : PositionReport → ℕ
+positionNumber (positionReport.Refused n) = n
+positionNumber (positionReport.Is k) = none

@@ -159,3 +159,24 @@ rescanned s retained far head tail =
     unless n
     (rescannedBy s (rescan.Refused n))
     (pick (s .frames .retained) (rescannedBy s (rescanAnswer (passage s retained far head tail))) (rescannedBy s rescan.NothingRetained))
+
+-- ---- the refusal number of an answer, and none of one that is no refusal
+
+abbrev pub takingNumber : Taking → ℕ
+takingNumber (taking.Refused n) = n
+takingNumber taking.Taken = none
+takingNumber taking.Full = none
+
+abbrev pub gateNumber : GateAnswer → ℕ
+gateNumber (gate.Refused n) = n
+gateNumber gate.Skipped = none
+gateNumber gate.Silent = none
+gateNumber gate.First = none
+gateNumber gate.Later = none
+
+abbrev pub rescanNumber : RescanAnswer → ℕ
+rescanNumber (rescan.Refused n) = n
+rescanNumber rescan.NothingRetained = none
+rescanNumber rescan.Skipped = none
+rescanNumber rescan.Silent = none
+rescanNumber rescan.Taken = none
