@@ -1,0 +1,147 @@
+-- The calls that are lent no buffer: making, restart, relocate and reset, which clear what delay.rs says, and the reports.
+use Prim.Native.Nat.{ℕ, _+_}
+use mathlib.Core.Bool.{Bool, true}
+use lib.Dec.{ltb}
+use lib.Ieee.{Float}
+use Rattle.answers.specs.Pick.{pick}
+use Rattle.answers.specs.Refusals.{require, before, unless, none, outsideTable, tooLarge}
+use Rattle.answers.specs.Numbers.{limit, allowedSpan}
+use Rattle.units.specs.Units.{samples}
+use Rattle.units.specs.declared.Samples.{Samples}
+use Rattle.fine.specs.State.{windowOf, lengthsOf, newWith, spanOf, firstRefusals}
+use Rattle.fine.specs.declared.Frames.{Frames}
+use Rattle.fine.specs.declared.Position.{Position}
+use Rattle.fine.specs.declared.Fine.{Fine}
+use Rattle.fine.specs.declared.Range.{Range}
+use Rattle.fine.specs.declared.Change.{Change}
+use Rattle.fine.specs.declared.Change.the-variants as change
+use Rattle.fine.specs.declared.Changed.{Changed}
+use Rattle.fine.specs.declared.SamplesReport.{SamplesReport}
+use Rattle.fine.specs.declared.SamplesReport.the-variants as samplesReport
+use Rattle.fine.specs.declared.RangeReport.{RangeReport}
+use Rattle.fine.specs.declared.RangeReport.the-variants as rangeReport
+use Rattle.fine.specs.declared.CountReport.{CountReport}
+use Rattle.fine.specs.declared.CountReport.the-variants as countReport
+use Rattle.fine.specs.declared.RatioReport.{RatioReport}
+use Rattle.fine.specs.declared.RatioReport.the-variants as ratioReport
+use Rattle.fine.specs.declared.PositionReport.{PositionReport}
+use Rattle.fine.specs.declared.PositionReport.the-variants as positionReport
+
+-- a call that changes the state `given` to `next`, or is refused and returns the one given
+unfoldable pub changed : ℕ → Fine → Fine → Changed
+changed refusal given next =
+    unless refusal
+    (record { fine = given; answer = change.Refused refusal })
+    (record { fine = next; answer = change.Done })
+
+-- ---- a making. Refused, it returns the state for span 1.
+
+unfoldable pub makingRefusal : ℕ → ℕ
+makingRefusal span = require (allowedSpan span) outsideTable none
+
+unfoldable pub made : ℕ → Changed
+made span = changed (makingRefusal span) (newWith (lengthsOf 1)) (newWith (lengthsOf span))
+
+-- ---- restart, relocate and reset
+
+-- no buffer is lent: refusals 1 and 3
+unfoldable pub stateRefusal : Fine → ℕ
+stateRefusal s = firstRefusals s true
+
+-- the near frame and the frames taken, as new; a retained frame stays, and so do the frames skipped
+abbrev pub restartedFrames : Frames → Frames
+restartedFrames f = record { len = 0; retained = f .retained; taken = 0; skipped = f .skipped }
+
+-- the same, searching from an origin on
+abbrev pub restartedAt : Fine → Samples → Fine
+restartedAt s origin = record { lengths = s .lengths; origin = origin; frames = restartedFrames (s .frames); scans = s .scans }
+
+unfoldable pub restarted : Fine → Changed
+restarted s = changed (stateRefusal s) s (restartedAt s (s .origin))
+
+unfoldable pub relocateRefusal : Fine → Samples → ℕ
+relocateRefusal s origin =
+    before (stateRefusal s)
+    (require (ltb (origin .0) limit) tooLarge
+    none)
+
+unfoldable pub relocated : Fine → Samples → Changed
+relocated s origin = changed (relocateRefusal s origin) s (restartedAt s origin)
+
+-- the state as it was made
+unfoldable pub wasReset : Fine → Changed
+wasReset s = changed (stateRefusal s) s (newWith (s .lengths))
+
+-- ---- reports
+
+unfoldable pub samplesReported : ℕ → Samples → SamplesReport
+samplesReported refusal n = unless refusal (samplesReport.Refused refusal) (samplesReport.Is n)
+
+unfoldable pub countReported : ℕ → ℕ → CountReport
+countReported refusal n = unless refusal (countReport.Refused refusal) (countReport.Is n)
+
+unfoldable pub frameLen : Fine → SamplesReport
+frameLen s = samplesReported (stateRefusal s) (samples (s .lengths .frame))
+
+unfoldable pub windowLen : Fine → SamplesReport
+windowLen s = samplesReported (stateRefusal s) (samples (s .lengths .frame + spanOf s))
+
+unfoldable pub maxDelay : Fine → SamplesReport
+maxDelay s = samplesReported (stateRefusal s) (samples (spanOf s))
+
+-- how far back from the near frame's end the far window starts
+unfoldable pub windowBackOff : Fine → SamplesReport
+windowBackOff s = samplesReported (stateRefusal s) (samples (s .origin .0 + spanOf s))
+
+-- the origin of the last scan
+unfoldable pub lastScanOrigin : Fine → SamplesReport
+lastScanOrigin s = samplesReported (stateRefusal s) (s .scans .origin)
+
+-- the delays searched, both ends counted
+abbrev pub rangeOf : Fine → Range
+rangeOf s = record { first = s .origin; last = samples (s .origin .0 + spanOf s) }
+
+unfoldable pub searchRange : Fine → RangeReport
+searchRange s = unless (stateRefusal s) (rangeReport.Refused (stateRefusal s)) (rangeReport.Is (rangeOf s))
+
+-- the frames taken against the current origin
+unfoldable pub framesOf : Fine → CountReport
+framesOf s = countReported (stateRefusal s) (s .frames .taken)
+
+unfoldable pub skippedOf : Fine → CountReport
+skippedOf s = countReported (stateRefusal s) (s .frames .skipped)
+
+unfoldable pub scansOf : Fine → CountReport
+scansOf s = countReported (stateRefusal s) (s .scans .count)
+
+unfoldable pub lastScanRatio : Fine → RatioReport
+lastScanRatio s = unless (stateRefusal s) (ratioReport.Refused (stateRefusal s)) (ratioReport.Is (s .scans .ratio))
+
+unfoldable pub lastScanPeakAt : Fine → PositionReport
+lastScanPeakAt s = unless (stateRefusal s) (positionReport.Refused (stateRefusal s)) (positionReport.Is (s .scans .«peak_at»))
+
+-- ---- the refusal number of an answer, and none of one that is no refusal
+
+abbrev pub changeNumber : Change → ℕ
+changeNumber (change.Refused n) = n
+changeNumber change.Done = none
+
+abbrev pub samplesNumber : SamplesReport → ℕ
+samplesNumber (samplesReport.Refused n) = n
+samplesNumber (samplesReport.Is d) = none
+
+abbrev pub rangeNumber : RangeReport → ℕ
+rangeNumber (rangeReport.Refused n) = n
+rangeNumber (rangeReport.Is r) = none
+
+abbrev pub countNumber : CountReport → ℕ
+countNumber (countReport.Refused n) = n
+countNumber (countReport.Is k) = none
+
+abbrev pub ratioNumber : RatioReport → ℕ
+ratioNumber (ratioReport.Refused n) = n
+ratioNumber (ratioReport.Is x) = none
+
+abbrev pub positionNumber : PositionReport → ℕ
+positionNumber (positionReport.Refused n) = n
+positionNumber (positionReport.Is k) = none

@@ -1,0 +1,2 @@
+-- The fine gate of document 01, as definitions on values.
+pub mod Gate
