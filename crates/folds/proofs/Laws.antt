@@ -7,7 +7,7 @@ use native.Mathlib.Nat.{eq-or-lt-of-le, not-suc-le-zero, le-of-suc-le-suc}
 use native.Mathlib.Numerals.{add-one}
 use native.Mathlib.Omega.{arith}
 use lib.ListN.{length, take, set, getD, length-append, List·getD-append}
-use lib.Seq.{take-suc-set, take-all, take-suc, take-length, getD-at, getD-set-other}
+use lib.Seq.{take-suc-set, take-all, take-suc, take-length, getD-at, getD-set-other, getD-take}
 use lib.Ieee.{Float, nan, binary64, add}
 use Rattle.folds.specs.Sums.{upto, table, at}
 
@@ -68,3 +68,7 @@ takes xs (suc i) h = take-suc xs i nan (omega arith) ∙ ap (λ (l : List Float)
 
 pub tabled : (xs : List Float) → table (at xs) (length xs) ≡ xs
 tabled xs = sym (takes xs (length xs) (omega arith)) ∙ take-length xs
+
+-- a list that starts as a table does, value by value
+pub front : (f : ℕ → Float) (xs : List Float) (n : ℕ) → take n xs ≡ table f n → (i : ℕ) → i < n → at xs i ≡ f i
+front f xs n e i h = sym (getD-take n xs i nan h) ∙ ap (λ (l : List Float). at l i) e ∙ at-table f n i h

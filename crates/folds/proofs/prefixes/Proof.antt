@@ -1,5 +1,4 @@
 -- `folds::prefixes` meets its contract. Invariant: the two totals are the sums of the first i terms, and the first i + 1 prefix values stand.
--- the squares that the second list sums
 use Prim.Native.Nat.{ℕ, _≤_, _-_, _+_}
 use mathlib.Core.Path.{_≡_, refl}
 use lib.ListN.{length, take, length-set}
@@ -12,6 +11,7 @@ use native.Mathlib.Omega.{arith}
 use Rattle.folds.proofs.prefixes.Statement.{statement}
 use Rattle.folds.proofs.prefixes.Tie as tie
 
+-- the squares that the second list sums
 abbrev squared : List Float → ℕ → Float
 squared xs i = square (at xs i)
 
