@@ -2,7 +2,7 @@
 ghost use mathlib.Core.Path.{_≡_};
 ghost use Prim.Native.Nat.{_+_};
 ghost use lib.ListN.{length};
-ghost use Rattle.folds.specs.Sums.{sumOf, prefixSums, prefixSquares};
+ghost use Rattle.folds.specs.Sums.{zeros, sumOf, prefixSums, prefixSquares, allFinite};
 ghost use Rattle.folds.specs.Search.{searchDown};
 
 // The largest value above 0 and where it stands.
@@ -62,4 +62,56 @@ pub fn search_down(xs: &[f64]) -> Peak
         n = k;
     }
     Peak { at, value }
+}
+
+// ---- tests and clearing
+
+// No NaN and no infinity among them. The loop has no early way out, so that several values are tested at once.
+pub fn all_finite(xs: &[f32]) -> bool
+    ensures { λ r. ⌜ r ≡ allFinite (now (xs .entry)) ⌝ }
+{
+    let mut fine = true;
+    let mut i = 0;
+    while i < xs.len() {
+        if !floats::is_finite32(xs[i]) {
+            fine = false;
+        }
+        i += 1;
+    }
+    fine
+}
+
+pub fn all_finite64(xs: &[f64]) -> bool
+    ensures { λ r. ⌜ r ≡ allFinite (now (xs .entry)) ⌝ }
+{
+    let mut fine = true;
+    let mut i = 0;
+    while i < xs.len() {
+        if !floats::is_finite(xs[i]) {
+            fine = false;
+        }
+        i += 1;
+    }
+    fine
+}
+
+// All +0.
+pub fn clear32(xs: &mut [f32])
+    ensures { λ _. ⌜ now (xs .exit) ≡ zeros (length (now (xs .entry))) ⌝ }
+{
+    let mut i = 0;
+    while i < xs.len() {
+        xs[i] = 0.0;
+        i += 1;
+    }
+}
+
+pub fn clear64(xs: &mut [f64])
+    ensures { λ _. ⌜ now (xs .exit) ≡ zeros (length (now (xs .entry))) ⌝ }
+{
+    let mut i = 0;
+    while i < xs.len() {
+        xs[i] = 0.0;
+        i += 1;
+    }
 }
