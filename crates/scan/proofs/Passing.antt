@@ -103,3 +103,7 @@ pass s lengths z =
     let rules = passed (keepsRules s) 2 _ (two .1) .0 in
     let same = due-is s (first (geometryRule s) _ rules) in
     record { geometry = same; bounds = rw same (bounds (s .geometry .rate) (s .geometry .ceiling) (one .0)); fit = two .0; rules = rules }
+
+-- a length that passes is the state's own
+pub fits : (s : Scan) (n : ℕ) (due-length : Geometry → ℕ) → firstRefusals s (eqb n (due-length (due s))) ≡ 0 → n ≡ due-length (s .geometry)
+fits s n due-length z = let ok = pass s _ z in eqb-true _ _ (ok .fit) ∙ ap due-length (sym (ok .geometry))

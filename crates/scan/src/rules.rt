@@ -11,6 +11,7 @@ ghost use Prim.Native.Nat.{_+_, _*_, _/_, _^_, _<_, max};
 ghost use lib.Dec.{eqb, ltb};
 ghost use Rattle.answers.specs.Pick.{either};
 ghost use Rattle.answers.specs.Numbers.{limit};
+ghost use Rattle.coarse.specs.Bins;
 ghost use Rattle.coarse.specs.Bins.{inTable, geometryOf, sameGeometry, envelopeLen};
 ghost use Rattle.coarse.specs.State;
 ghost use Rattle.coarse.specs.State.{farRule, nearRule, verdictRule, keepsRules, firstRefusals};
@@ -35,13 +36,15 @@ fn at_least_one(n: u64) -> u64
 // So many ms in bins, of which there are `rate` a second.
 fn in_bins(rate: u64, ms: u32) -> u64
     requires { ⌜ rate < 2 ^ 32 ⌝ }
-    ensures { λ r. ⌜ r ≡ max 1 (ms * rate / 1000) ⌝ }
+    ensures is { λ r. ⌜ r ≡ max 1 (ms * rate / 1000) ⌝ }
+    ensures small { λ r. ⌜ r < 2 ^ 62 ⌝ }
 {
     at_least_one(ms as u64 * rate / 1000)
 }
 
 pub fn geometry_of(rate: u32, ceiling: u32) -> Geometry
-    ensures { λ r. ⌜ r ≡ geometryOf rate ceiling ⌝ }
+    ensures is { λ r. ⌜ r ≡ geometryOf rate ceiling ⌝ }
+    ensures small { λ r. ⌜ (r .frame < 2 ^ 62) × (r .span < 2 ^ 62) ⌝ }
 {
     let decimation = at_least_one((rate as u64 + 500) / 1000);
     let bin_rate = at_least_one(rate as u64 / decimation);
@@ -55,6 +58,22 @@ pub fn geometry_of(rate: u32, ceiling: u32) -> Geometry
         ceiling_guard: in_bins(bin_rate, 8),
         peak_guard: in_bins(bin_rate, 30),
     }
+}
+
+// ---- 2: the lengths of the lent buffers
+
+pub fn envelope_len(slack: u32, g: Geometry) -> u64
+    requires { ⌜ (g .frame < 2 ^ 62) × (g .span < 2 ^ 62) ⌝ }
+    ensures { λ r. ⌜ r ≡ envelopeLen slack g ⌝ }
+{
+    g.frame + g.span + slack as u64
+}
+
+pub fn lags(g: Geometry) -> u64
+    requires { ⌜ g .span < 2 ^ 62 ⌝ }
+    ensures { λ r. ⌜ r ≡ Bins.lags g ⌝ }
+{
+    g.span + 1
 }
 
 // ---- 3: the state rules

@@ -39,7 +39,7 @@ in-bins-requires-4 c κs = bin-rate-small (c .before .before .before)
 
 returns : tie.Need-returns
 unfolding geometryOf
-returns c = cc
+returns c = (cc, (c .before .before .in-bins2 .ensures .1, c .before .before .before .in-bins .ensures .1))
 
 pub geometry-of-spec : {M : Type 1} → statement M
 geometry-of-spec =
