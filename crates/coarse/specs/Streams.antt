@@ -165,10 +165,12 @@ cleanStart slack f = making slack (f .rate) (f .ceiling) (zeroBuffers slack (geo
 unfoldable pub cleanWorld : ℕ → Facts → World
 cleanWorld slack f = called slack (cleanStart slack f) (far (unheard (f .early) true ++ f .late)) .world
 
+-- the answers to these calls, each of them on what the one before left
 unfoldable pub cleanAnswers : ℕ → World → List CleanCall → List Response
 cleanAnswers slack w [] = []
 cleanAnswers slack w (c ∷ calls) = called slack w (asCall c) .response ∷ cleanAnswers slack (called slack w (asCall c) .world) calls
 
+-- what the rules give from these facts alone
 unfoldable pub fromTheseAlone : ℕ → Facts → List Response
 fromTheseAlone slack f = cleanAnswers slack (cleanWorld slack f) (f .calls)
 
@@ -185,12 +187,14 @@ earlyOf known n xs = min (known - n) (length xs)
 abbrev pub lateOf : ℕ → ℕ → List Float → List Float
 lateOf known n xs = drop (known - n) xs
 
+-- a call, with nothing left of the samples before the first known one but their number and whether they are finite
 abbrev pub cleanCall : ℕ → World → Call → CleanCall
 cleanCall known w (far xs) =
     let n = w .scan .far .accepted in
     push (earlyOf known n xs) (allFinite (take (known - n) xs)) (lateOf known n xs)
 cleanCall known w (deed d) = does d
 
+-- the stream's own calls
 unfoldable pub cleaned : ℕ → ℕ → World → List Item → List CleanCall
 cleaned slack known w [] = []
 cleaned slack known w (own c ∷ items) = cleanCall known w c ∷ cleaned slack known (called slack w c .world) items
@@ -205,7 +209,8 @@ lengthsOf b = record { levels = length (b .levels); window = length (b .window);
 abbrev pub resumed : ℕ → World → List Item → World
 resumed slack w earlier = called slack (after slack w earlier) (deed rearm) .world
 
--- the stream began with w, and was rearmed between `earlier` and `later`
+-- The stream began with w, and was rearmed between `earlier` and `later`. Supposed are: no accepted reset, and only refused calls on anything but the stream's own state
+-- and buffers (`fair`, `fairSince`); a rearm that was not refused; late frames since.
 pub record Stream (slack rate ceiling block : ℕ) (w : World) (earlier later : List Item) : Type 0 where
   pub began : Began slack rate ceiling w
   pub fair : Fair slack w earlier
