@@ -16,7 +16,7 @@ use Rattle.tracker.specs.Told.{hold, moveTo, verdictTold}
 pub data Row : Type 0 where
   -- at a rate and an alignment, whether a candidate is outside the bands
   band : (rate alignment candidate : ℕ) (out : Bool) → Row
-  -- from a tracker with that pending delay, if any, the verdicts of the cycles, one after another, at one alignment
+  -- from a tracker on, the verdicts of cycles one after another, at one alignment
   log : (start : Tracker) (alignment : ℕ) (cycles : List Outcome) (says : List (List ℕ)) → Row
 
 abbrev pub verdicts : Tracker → ℕ → List Outcome → List (List ℕ)
