@@ -1,6 +1,6 @@
 // How far and near samples become levels: the two pushes. No call has a `requires`; what each of them does is defined in crate coarse.
 // The modules have the functions behind the calls.
-pub mod level; // a block's level
+pub mod level; // what both pushes have in common
 pub mod far; // a push of far samples
 pub mod near; // one near sample
 

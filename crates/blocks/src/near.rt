@@ -9,7 +9,8 @@ use scan::parts;
 use scan::rules;
 ghost use mathlib.Core.Path.{_≡_};
 ghost use mathlib.Core.Bool.{true};
-ghost use Rattle.answers.specs.Pick.{pick};
+ghost use lib.Ieee.Scale.{finite};
+ghost use Rattle.answers.specs.Pick.{pick, either};
 ghost use Rattle.coarse.specs.Blocks;
 ghost use Rattle.coarse.specs.Blocks.{firstBin};
 ghost use Rattle.coarse.specs.Calls.{nearRefusal, takenBy, withNear};
@@ -29,6 +30,17 @@ pub fn dropped(g: Geometry, n: Near, index: u64) -> bool
     index % g.decimation != 0
 }
 
+// A dropped sample is not read.
+fn readable(g: Geometry, n: Near, sample: f32, index: u64) -> bool
+    requires { ⌜ 0 < g .decimation ⌝ }
+    ensures { λ r. ⌜ r ≡ either (Blocks.dropped g n index) (finite sample) ⌝ }
+{
+    if dropped(g, n, index) {
+        return true;
+    }
+    floats::is_finite32(sample)
+}
+
 pub fn refusal(scan: Scan, levels: &[f32], sample: f32, index: u64) -> u8
     ensures { λ r. ⌜ r ≡ nearRefusal scan (now (levels .entry)) sample index ⌝ }
 {
@@ -46,16 +58,7 @@ pub fn refusal(scan: Scan, levels: &[f32], sample: f32, index: u64) -> u8
     if near.len == g.frame {
         return answers::FRAME_WAITS;
     }
-    if index >= answers::LIMIT {
-        return answers::TOO_LARGE;
-    }
-    if dropped(g, near, index) {
-        return 0;
-    }
-    if !floats::is_finite32(sample) {
-        return answers::NOT_FINITE;
-    }
-    0
+    level::later_refusal(index < answers::LIMIT, readable(g, near, sample, index))
 }
 
 // The frame's first bin: this sample's, where it begins the frame.

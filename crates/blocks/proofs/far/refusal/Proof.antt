@@ -1,15 +1,13 @@
 -- `blocks::far::refusal` meets its contract: the refusals in their order.
 use Prim.Native.Nat.{ℕ}
-use mathlib.Core.Path.{_≡_, refl, sym, ap, _∙_}
+use mathlib.Core.Path.{_≡_, sym, ap, _∙_}
 use native.Mathlib.Omega.{arith}
 use lib.Dec.{eqb}
 use lib.ListN.{length}
-use borrow.Author.Tests.{le-leb, lt-leb}
 use Rattle.coarse.specs.Bins.{envelopeLen}
 use Rattle.coarse.specs.State.{firstRefusals, due}
 use Rattle.coarse.specs.Calls.{farRefusal}
-use Rattle.coarse.specs.declared.Geometry.{Geometry}
-use Rattle.scan.proofs.Chains.{no, yes, earlier, later, refuses, passes}
+use Rattle.scan.proofs.Chains.{earlier, later}
 use Rattle.blocks.proofs.Pushing.{room}
 use borrow.Author.Needs.{needs}
 use Rattle.blocks.proofs.far.refusal.Statement.{statement}
@@ -34,32 +32,23 @@ returns : tie.Need-returns
 unfolding farRefusal
 returns c = earlier (first (c .before)) _ (c .if1 .taken)
 
-add-if2 : tie.Need-add-if2
-add-if2 c =
-    let a = c .before .before .before .before .before .before .before .args in
-    let h = room (a .scan) _ (sym (first (c .before .before)) ∙ c .before .if1 .left) in
-    record { fits = omega (arith, h, c .before .before .before .before .before .before .before .good) }
-
-returns-2 : tie.Need-returns-2
-unfolding farRefusal
-returns-2 c = let one = c .before .before in later (first (one .before)) (one .if1 .left) (no refl _ (lt-leb _ _ (c .if2 .taken)) refl)
+add-later-refusal : tie.Need-add-later-refusal
+add-later-refusal c =
+    let k = c .before .before .before .before .before .before .before in
+    let h = room (k .args .scan) _ (sym (first (c .before .before)) ∙ c .before .if1 .left) in
+    record { fits = omega (arith, h, k .good) }
 
 all-finite-requires : tie.Need-all-finite-requires
 all-finite-requires c κs = search needs
 
-returns-3 : tie.Need-returns-3
-unfolding farRefusal
-returns-3 c =
-    let two = c .before .before in
-    let one = two .before .before in
-    later (first (one .before)) (one .if1 .left) (yes refl _ (le-leb _ _ (two .if2 .left)) (refuses (c .before .all-finite .ensures) 4 _ (c .if3 .taken)))
+later-refusal-requires : tie.Need-later-refusal-requires
+later-refusal-requires c κs = search needs
 
-returns-4 : tie.Need-returns-4
+returns-2 : tie.Need-returns-2
 unfolding farRefusal
-returns-4 c =
-    let two = c .before .before in
-    let one = two .before .before in
-    later (first (one .before)) (one .if1 .left) (yes refl _ (le-leb _ _ (two .if2 .left)) (passes (c .before .all-finite .ensures) 4 (c .if3 .left) refl))
+returns-2 c =
+    let one = c .before .before .before in
+    later (first (one .before)) (one .if1 .left) (rw (c .later-refusal .ensures, c .before .all-finite .ensures))
 
 pub refusal-spec : {M : Type 1} → statement M
 refusal-spec =
@@ -69,8 +58,7 @@ refusal-spec =
     envelope-len-requires
     first-refusals-requires
     returns
-    add-if2
-    returns-2
+    add-later-refusal
     all-finite-requires
-    returns-3
-    returns-4)
+    later-refusal-requires
+    returns-2)
