@@ -74,9 +74,9 @@ pub fn push(slack: u32, scan: Scan, envelope: &mut [f32], samples: &[f32]) -> Ch
     ensures changed { λ r. ⌜ r ≡ pushedFar slack scan (now (envelope .entry)) (now (samples .entry)) .changed ⌝ }
     ensures envelope { λ r. ⌜ now (envelope .exit) ≡ pushedFar slack scan (now (envelope .entry)) (now (samples .entry)) .envelope ⌝ }
 {
-    let n = refusal(slack, scan, envelope, samples);
-    if n != 0 {
-        return parts::refused(scan, n);
+    let number = refusal(slack, scan, envelope, samples);
+    if number != 0 {
+        return parts::refused(scan, number);
     }
     let geometry = scan.geometry;
     let far = scan.far;

@@ -34,13 +34,12 @@ pub fn reset(scan: Scan, envelope: &mut [f32], lag_sums: &mut [f64]) -> Changed
     restart::reset(SLACK, scan, envelope, lag_sums)
 }
 
-// The near frame and the verdict as new; the far side stays, its partial block too.
+// The search begins anew, on the far history as it stands.
 pub fn rearm(scan: Scan, lag_sums: &mut [f64]) -> Changed
     ensures changed { λ r. ⌜ r ≡ rearmed scan (now («lag_sums» .entry)) .changed ⌝ }
     ensures sums { λ r. ⌜ now («lag_sums» .exit) ≡ rearmed scan (now («lag_sums» .entry)) .lagSums ⌝ }
 {
-    let cleared = parts::with_near_verdict(scan, parts::new_near(), parts::new_verdict());
-    clearing::clear(scan, lag_sums, cleared)
+    clearing::clear(scan, lag_sums, parts::searching_anew(scan))
 }
 
 // The near frame but for its first bin, and the frames banked; the frames counted, the last peak, the region and the flags stay.
