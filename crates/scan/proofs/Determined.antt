@@ -9,10 +9,6 @@ use Rattle.scan.proofs.new.Kinds as new-kinds
 use Rattle.scan.proofs.new.Reads as new-reads
 use Rattle.scan.proofs.reset.Kinds as reset-kinds
 use Rattle.scan.proofs.reset.Reads as reset-reads
-use Rattle.scan.proofs.push_far.Kinds as push-far-kinds
-use Rattle.scan.proofs.push_far.Reads as push-far-reads
-use Rattle.scan.proofs.push_near.Kinds as push-near-kinds
-use Rattle.scan.proofs.push_near.Reads as push-near-reads
 use Rattle.scan.proofs.rearm.Kinds as rearm-kinds
 use Rattle.scan.proofs.rearm.Reads as rearm-reads
 use Rattle.scan.proofs.discard_near.Kinds as discard-near-kinds
@@ -55,20 +51,6 @@ reset-envelope-once κs a v w x y p q = once (p .1 .0) (q .1 .0)
 pub reset-lag-sums-once : (κs : Lfts 2) (a : Dens κs reset-kinds.ps) (v w : resT reset-kinds.r κs .Denot) (x y : AtExit (endedOf 2 reset-kinds.ps reset-kinds.r) κs)
     → reset-reads.Post κs a v x → reset-reads.Post κs a w y → now (x .1 .1 .0) ≡ now (y .1 .1 .0)
 reset-lag-sums-once κs a v w x y p q = once (p .1 .1) (q .1 .1)
-
-pub push-far-once : Determined 2 push-far-kinds.ps push-far-kinds.r push-far-reads.Post
-push-far-once κs a v w x y p q = once (p .0) (q .0)
-
-pub push-far-envelope-once : (κs : Lfts 2) (a : Dens κs push-far-kinds.ps) (v w : resT push-far-kinds.r κs .Denot) (x y : AtExit (endedOf 2 push-far-kinds.ps push-far-kinds.r) κs)
-    → push-far-reads.Post κs a v x → push-far-reads.Post κs a w y → now (x .1 .0) ≡ now (y .1 .0)
-push-far-envelope-once κs a v w x y p q = once (p .1) (q .1)
-
-pub push-near-once : Determined 1 push-near-kinds.ps push-near-kinds.r push-near-reads.Post
-push-near-once κs a v w x y p q = once (p .0) (q .0)
-
-pub push-near-levels-once : (κs : Lfts 1) (a : Dens κs push-near-kinds.ps) (v w : resT push-near-kinds.r κs .Denot) (x y : AtExit (endedOf 1 push-near-kinds.ps push-near-kinds.r) κs)
-    → push-near-reads.Post κs a v x → push-near-reads.Post κs a w y → now (x .1 .0) ≡ now (y .1 .0)
-push-near-levels-once κs a v w x y p q = once (p .1) (q .1)
 
 pub rearm-once : Determined 1 rearm-kinds.ps rearm-kinds.r rearm-reads.Post
 rearm-once κs a v w x y p q = once (p .0) (q .0)

@@ -1,5 +1,4 @@
-pub mod Passing
 pub mod Chains
-pub mod Pushing
+pub mod Passing
 pub mod Calls
 pub mod Determined

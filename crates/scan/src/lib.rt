@@ -1,25 +1,20 @@
-// The coarse scan: every public call but scoring. No call has a `requires`; what each of them does is defined in crate coarse.
-// The modules below have the functions behind the calls; `reports` has the calls that only report.
+// The coarse scan's state: it is made, reset, rearmed, and asked what it found. No call has a `requires`; what each of them does is defined in crate coarse.
+// The modules have the functions behind the calls; `reports` has the calls that only report.
 pub mod rules; // refusals 1, 2 and 3, which every call begins with
 pub mod parts; // the parts of a state, as new and exchanged
-pub mod level; // a block's level
 pub mod restart; // a making and a reset
-pub mod far; // a push of far samples
-pub mod near; // one near sample
 pub mod clearing; // rearm and discard_near
 pub mod reports; // what a scan reports
 
 use coarse::Changed;
 use coarse::Near;
 use coarse::Scan;
-use coarse::Taking;
-use coarse::Took;
 ghost use mathlib.Core.Path.{_≡_};
 ghost use Rattle.coarse.specs.Bins.{fullSlack};
-ghost use Rattle.coarse.specs.Calls.{made, wasReset, pushedFar, pushedNear, rearmed, discarded};
+ghost use Rattle.coarse.specs.Calls.{made, wasReset, rearmed, discarded};
 
 // How many bins the far envelope keeps beyond the window.
-const SLACK: u32 = 4000;
+pub const SLACK: u32 = 4000;
 
 // A new scan. Refused, it is the one for rate 8,000 and ceiling 1.
 pub fn new(rate: u32, ceiling: u32, envelope: &mut [f32], lag_sums: &mut [f64]) -> Changed
@@ -39,52 +34,12 @@ pub fn reset(scan: Scan, envelope: &mut [f32], lag_sums: &mut [f64]) -> Changed
     restart::reset(SLACK, scan, envelope, lag_sums)
 }
 
-// Far samples, in played order.
-pub fn push_far(scan: Scan, envelope: &mut [f32], samples: &[f32]) -> Changed
-    ensures changed { λ r. ⌜ r ≡ pushedFar fullSlack scan (now (envelope .entry)) (now (samples .entry)) .changed ⌝ }
-    ensures envelope { λ r. ⌜ now (envelope .exit) ≡ pushedFar fullSlack scan (now (envelope .entry)) (now (samples .entry)) .envelope ⌝ }
-{
-    far::push(SLACK, scan, envelope, samples)
-}
-
-// One near sample with its index.
-pub fn push_near(scan: Scan, levels: &mut [f32], sample: f32, index: u64) -> Took
-    ensures took { λ r. ⌜ r ≡ pushedNear scan (now (levels .entry)) sample index .took ⌝ }
-    ensures levels { λ r. ⌜ now (levels .exit) ≡ pushedNear scan (now (levels .entry)) sample index .levels ⌝ }
-{
-    let n = near::refusal(scan, levels, sample, index);
-    if n != 0 {
-        return Took {
-            scan,
-            answer: Taking::Refused(n),
-        };
-    }
-    let g = scan.geometry;
-    let near = scan.near;
-    let verdict = scan.verdict;
-    if rules::finished(verdict) {
-        return Took {
-            scan,
-            answer: Taking::Ignored,
-        };
-    }
-    if near::dropped(g, near, index) {
-        return Took {
-            scan,
-            answer: Taking::Dropped,
-        };
-    }
-    let gathered = near::gather(g, near, levels, sample, index);
-    near::taken(scan, gathered)
-}
-
-// The near frame and the verdict as new; the far side stays, its partial block too.
+// The search begins anew, on the far history as it stands.
 pub fn rearm(scan: Scan, lag_sums: &mut [f64]) -> Changed
     ensures changed { λ r. ⌜ r ≡ rearmed scan (now («lag_sums» .entry)) .changed ⌝ }
     ensures sums { λ r. ⌜ now («lag_sums» .exit) ≡ rearmed scan (now («lag_sums» .entry)) .lagSums ⌝ }
 {
-    let cleared = parts::with_near_verdict(scan, parts::new_near(), parts::new_verdict());
-    clearing::clear(scan, lag_sums, cleared)
+    clearing::clear(scan, lag_sums, parts::searching_anew(scan))
 }
 
 // The near frame but for its first bin, and the frames banked; the frames counted, the last peak, the region and the flags stay.

@@ -121,6 +121,20 @@ pub fn with_near_verdict(scan: Scan, near: Near, verdict: Verdict) -> Scan
     }
 }
 
+// The near frame and the verdict as new; the far side stays, its partial block too.
+pub fn searching_anew(scan: Scan) -> Scan
+    ensures { λ r. ⌜ r ≡ withNearVerdict scan newNear newVerdict ⌝ }
+{
+    let geometry = scan.geometry;
+    let history = scan.far;
+    Scan {
+        geometry,
+        far: history,
+        near: new_near(),
+        verdict: new_verdict(),
+    }
+}
+
 // A refusal returns its number and the state it was given.
 pub fn refused(scan: Scan, number: u8) -> Changed
     ensures { λ r. ⌜ r ≡ changedBy (Change.Refused number) scan ⌝ }

@@ -1,17 +1,11 @@
 -- `scan::rearm` meets its contract.
-use Rattle.coarse.specs.Calls.{rearmed}
 use borrow.Author.Needs.{needs}
+use Rattle.coarse.specs.Calls.{rearmed}
 use Rattle.scan.proofs.rearm.Statement.{statement}
 use Rattle.scan.proofs.rearm.Tie as tie
 
-new-near-requires : tie.Need-new-near-requires
-new-near-requires c κs = search needs
-
-new-verdict-requires : tie.Need-new-verdict-requires
-new-verdict-requires c κs = search needs
-
-with-near-verdict-requires : tie.Need-with-near-verdict-requires
-with-near-verdict-requires c κs = search needs
+searching-anew-requires : tie.Need-searching-anew-requires
+searching-anew-requires c κs = search needs
 
 clear-requires : tie.Need-clear-requires
 clear-requires c κs = search needs
@@ -24,12 +18,4 @@ unfolding rearmed
 returns c = (cc, cc)
 
 pub rearm-spec : {M : Type 1} → statement M
-rearm-spec =
-    tie.close
-    (tie.spec
-    new-near-requires
-    new-verdict-requires
-    with-near-verdict-requires
-    clear-requires
-    same-length
-    returns)
+rearm-spec = tie.close (tie.spec searching-anew-requires clear-requires same-length returns)
