@@ -17,11 +17,11 @@ use lib.Ieee.Exact.{HasValue}
 use Rattle.folds.specs.Sums.{upto}
 use Rattle.coarse.specs.Scoring.{energyFloor}
 use Rattle.floats.specs.Rounding.{Held, Even, Quantity, NotAbove, NotBelow, Nearest, Rounded, ratio, rootOf}
-use Rattle.floats.proofs.Round.{le-or-lt, cmp, cmp-lt, cmp-gt}
+use Rattle.floats.proofs.Compare.{le-or-lt, compare-lt, compare-gt}
 use Rattle.floats.specs.Functions.{root, whole}
 use Rattle.floats.proofs.Levels.{AtMost}
-use Rattle.floats.proofs.Ratio.{round-rounded}
-use Rattle.floats.proofs.Root.{square-lt, root-of}
+use Rattle.floats.proofs.Fractions.{round-rounded}
+use Rattle.floats.proofs.SquareRoots.{square-lt, root-of}
 
 -- ---- the nearest value lies on the side of every value that the quantity lies on
 
@@ -65,7 +65,7 @@ round-size n k a s p c C h =
     let g : r .size ≤ n * 2 ^ (k + l) =
     nearest-at-most (ratio binary64 p c) (r .size) (n * 2 ^ (k + l)) (r .near)
     (record { q = n; k = k + l; digits = lt-of-lt-of-le (a .digits) (lit≤ tt); size = refl })
-    (λ i j. cmp-lt (compare (p * 2 ^ suc l) (i * c)) _ _ (cmp (p * 2 ^ suc l) (i * c)) (less p (n * 2 ^ k) c (2 ^ l) (n * 2 ^ (k + l)) (2 ^ suc l) i (pow-succ' 2 l) e h C j)) in
+    (λ i j. compare-lt (p * 2 ^ suc l) (i * c) (less p (n * 2 ^ k) c (2 ^ l) (n * 2 ^ (k + l)) (2 ^ suc l) i (pow-succ' 2 l) e h C j)) in
     value-size n k (r .size) s (round binary64 s p c)
     (r .finite (lt-of-le-of-lt g (lt-of-lt-of-le (shl-lt 14 (k + l) (a .digits)) (pow-mono {i = 14 + (k + l)} {j = l + 1024} (omega (arith, a .small)))))) (le-trans g (le-of-eq e))
   where
@@ -206,7 +206,7 @@ at-least-rounded j l x y r above =
 round-at-least : (j : ℕ) → j ≤ low binary64 → (a c : ℕ) → 0 < c → c ≤ a * 2 ^ j → AtLeast j (round binary64 false a c)
 round-at-least j l a c C h =
     at-least-rounded j l (ratio binary64 a c) (round binary64 false a c) (round-rounded binary64 false a c C)
-    (λ i k. cmp-gt (compare (a * 2 ^ suc (low binary64)) (i * c)) _ _ (cmp (a * 2 ^ suc (low binary64)) (i * c)) (more a c (2 ^ j) (2 ^ (low binary64 - j)) (2 ^ suc (low binary64)) i (halves j l) h C k))
+    (λ i k. compare-gt (a * 2 ^ suc (low binary64)) (i * c) (more a c (2 ^ j) (2 ^ (low binary64 - j)) (2 ^ suc (low binary64)) i (halves j l) h C k))
   where
     more : (a c q v t i : ℕ) → t ≡ q * (v + v) → c ≤ a * q → 0 < c → i < v + v → i * c < a * t
     more a c q v t i e h C k = lt-of-lt-of-le (mul-lt-mul-of-pos-right k C) (le-trans (mul-le-mul-left (v + v) h) (le-of-eq (turn a q (v + v) ∙ ap (λ (z : ℕ). a * z) (sym e))))
@@ -239,7 +239,7 @@ root-at-least j (fin true m e) l h = absurd h
 root-at-least j (fin false zero e) l h = absurd (omega (arith, h, down-pos e, zero-mul (up e), zero-mul (2 ^ (j + j))))
 root-at-least j (fin false (suc m) e) l h =
     at-least-rounded j l (rootOf binary64 (suc m * up e) (down e)) _ (root-of binary64 m e)
-    (λ i k. cmp-gt (compare (suc m * up e * (2 ^ suc (low binary64) * 2 ^ suc (low binary64))) (i * i * down e)) _ _ (cmp (suc m * up e * (2 ^ suc (low binary64) * 2 ^ suc (low binary64))) (i * i * down e))
+    (λ i k. compare-gt (suc m * up e * (2 ^ suc (low binary64) * 2 ^ suc (low binary64))) (i * i * down e)
     (more (suc m * up e) (down e) (2 ^ j) (2 ^ (j + j)) (2 ^ (low binary64 - j)) (2 ^ suc (low binary64)) i (halves j l) (pow-add 2 j j) h (down-pos e) k))
   where
     more : (a c q z v t i : ℕ) → t ≡ q * (v + v) → z ≡ q * q → c ≤ a * z → 0 < c → i < v + v → i * i * c < a * (t * t)

@@ -9,7 +9,7 @@ use lib.Dec.{ltb}
 use lib.Pow.{pow-mono}
 use borrow.Author.Tests.{lt-ltb, le-ltb, ltb-true, ltb-false}
 use Rattle.answers.specs.Pick.{pick-true, pick-false, pick-case}
-use Rattle.floats.proofs.Round.{le-or-lt}
+use Rattle.floats.proofs.Compare.{le-or-lt}
 use Rattle.fine.specs.State.{doubledTo, leastPower, LeastPower}
 
 done : (times n p : ℕ) → n ≤ p → doubledTo times n p ≡ p

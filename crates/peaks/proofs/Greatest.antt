@@ -16,7 +16,7 @@ use lib.Ieee.Scale.{finite}
 use borrow.Author.Tests.{lt-ltb, le-ltb, ltb-true, ltb-false, eq-eqb, eqb-true}
 use Rattle.answers.specs.Pick.{pick-case, pick-false, both}
 use Rattle.floats.specs.Functions.{zero64, magnitude}
-use Rattle.floats.proofs.Round.{le-or-lt}
+use Rattle.floats.proofs.Compare.{le-or-lt}
 use Rattle.folds.specs.Sums.{allFinite, at}
 use Rattle.folds.specs.Search.{peak, meet, searchUp}
 use Rattle.folds.specs.declared.Peak.{Peak}
