@@ -255,15 +255,12 @@ pub fn is_finite32(x: f32) -> bool
     x - x == 0.0
 }
 
-// The absolute value.
+// The absolute value: the pattern with its sign clear. A test of the sign would be guessed wrong for every other sample.
 pub fn magnitude(x: f64) -> f64
     ensures { λ r. ⌜ r ≡ Functions.magnitude x ⌝ }
 {
-    if x == 0.0 {
-        return 0.0;
+    if x != x {
+        return x;
     }
-    if x < 0.0 {
-        return -x;
-    }
-    x
+    f64::from_bits(f64::to_bits(x) % 0x8000_0000_0000_0000)
 }
