@@ -1,0 +1,17 @@
+-- `fine_suite::pattern64` is safe: the float is no NaN.
+use Rattle.floats.proofs.Floats.{no-nan}
+use borrow.Author.Needs.{needs}
+use Rattle.fine_suite.proofs.pattern64.Statement.{statement}
+use Rattle.fine_suite.proofs.pattern64.Tie as tie
+
+returns : tie.Need-returns
+returns c = search needs
+
+float-to-bits-result : tie.Need-float-to-bits-result
+float-to-bits-result c = no-nan (c .before .args .x) (c .if1 .left)
+
+returns-2 : tie.Need-returns-2
+returns-2 c = search needs
+
+pub pattern64-spec : {M : Type 1} → statement M
+pattern64-spec = tie.close (tie.spec returns float-to-bits-result returns-2)
