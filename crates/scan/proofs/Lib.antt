@@ -1,2 +1,4 @@
-pub mod Passing
 pub mod Chains
+pub mod Passing
+pub mod Calls
+pub mod Determined

@@ -8,8 +8,8 @@ use coarse::Near;
 use coarse::Scan;
 use coarse::Verdict;
 ghost use mathlib.Core.Path.{_≡_};
-ghost use Rattle.coarse.specs.State.{newFar, newNear, newVerdict};
-ghost use Rattle.coarse.specs.Calls.{withFar, withNear, withNearVerdict, changedBy};
+ghost use Rattle.coarse.specs.State.{newFar, newNear, newVerdict, newScan};
+ghost use Rattle.coarse.specs.Calls.{withFar, withNear, withNearVerdict, unbanked, changedBy};
 ghost use Rattle.coarse.specs.declared.Change.the-variants as Change;
 
 pub fn new_far() -> Far
@@ -59,6 +59,27 @@ pub fn as_new(geometry: Geometry) -> Scan
     }
 }
 
+pub fn new_scan(rate: u32, ceiling: u32) -> Scan
+    ensures { λ r. ⌜ r ≡ newScan rate ceiling ⌝ }
+{
+    as_new(crate::rules::geometry_of(rate, ceiling))
+}
+
+// No frame is banked any more.
+pub fn unbank(v: Verdict) -> Verdict
+    ensures { λ r. ⌜ r ≡ unbanked v ⌝ }
+{
+    let found = v.found;
+    Verdict {
+        banked: 0,
+        frames: v.frames,
+        last: v.last,
+        found,
+        beyond: v.beyond,
+        exhausted: v.exhausted,
+    }
+}
+
 pub fn with_far(scan: Scan, far: Far) -> Scan
     ensures { λ r. ⌜ r ≡ withFar scan far ⌝ }
 {
@@ -97,6 +118,20 @@ pub fn with_near_verdict(scan: Scan, near: Near, verdict: Verdict) -> Scan
         far,
         near,
         verdict,
+    }
+}
+
+// The near frame and the verdict as new; the far side stays, its partial block too.
+pub fn searching_anew(scan: Scan) -> Scan
+    ensures { λ r. ⌜ r ≡ withNearVerdict scan newNear newVerdict ⌝ }
+{
+    let geometry = scan.geometry;
+    let history = scan.far;
+    Scan {
+        geometry,
+        far: history,
+        near: new_near(),
+        verdict: new_verdict(),
     }
 }
 

@@ -206,7 +206,7 @@ pub fn observe(
     ensures { λ r. ⌜ saw r (lent (now (envelope .entry)) (now (levels .entry)) (now (window .exit)) (now (prefix .exit)) (now (squares .exit)) (now (scores .exit)) (now («lag_sums» .exit))) ≡ observed fullSlack (world scan (lent (now (envelope .entry)) (now (levels .entry)) (now (window .entry)) (now (prefix .entry)) (now (squares .entry)) (now (scores .entry)) (now («lag_sums» .entry)))) ⌝ }
 {
     observe_with(
-        4000,
+        scan::SLACK,
         scan,
         envelope,
         levels,

@@ -1,0 +1,3 @@
+pub mod Pushing
+pub mod Calls
+pub mod Determined

@@ -1,0 +1,2 @@
+-- What the functions behind the pushes ask of their arguments. What the pushes do is defined in crate coarse.
+pub mod Ready
