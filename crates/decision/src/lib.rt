@@ -88,10 +88,12 @@ fn decide(g: Geometry, averages: &[f64]) -> Frame
         return Frame::Weak;
     }
     let delay = Bins(answers::saturating_sub(g.span, peak.at));
-    if at_ceiling(g, delay) {
+    let beyond = at_ceiling(g, delay);
+    let rivalled = crowded(rival(g, averages, peak.at), peak.value);
+    if beyond {
         return Frame::Ceiling;
     }
-    if crowded(rival(g, averages, peak.at), peak.value) {
+    if rivalled {
         return Frame::Crowded;
     }
     Frame::Region(Region {

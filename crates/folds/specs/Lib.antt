@@ -2,3 +2,4 @@
 pub mod Sums
 pub mod Rewriting
 pub mod Search
+pub mod Greatest

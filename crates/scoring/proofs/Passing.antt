@@ -94,6 +94,10 @@ module _ (slack : ℕ) (s : Scan) (b : Buffers) where
 
   -- ---- 1, 2, 3, then 7, then 4
 
+  -- what the code's calls come to
+  pub first-is : (g : Geometry) (lengths : Bool) (n : ℕ) → g ≡ due s → lengths ≡ allLengths slack g b → n ≡ firstRefusals s lengths → n ≡ firstRefusals s (allLengths slack (due s) b)
+  first-is g lengths n e f h = h ∙ ap (firstRefusals s) (f ∙ ap (λ (k : Geometry). allLengths slack k b) e)
+
   module _ (n : ℕ) (is : n ≡ firstRefusals s (allLengths slack (due s) b)) where
     pub refuses-first : (n ≡ 0 → ⊥) → n ≡ scoreRefusal slack (world s b)
     unfolding scoreRefusal

@@ -6,7 +6,6 @@ use Rattle.coarse.specs.Scoring.{decision}
 use Rattle.decision.proofs.Fourth.{fits}
 use borrow.Author.Needs.{needs}
 use native.Mathlib.Omega.{arith}
-use borrow.Author.Needs.{needs}
 use Rattle.decision.proofs.decide.Statement.{statement}
 use Rattle.decision.proofs.decide.Tie as tie
 
@@ -23,22 +22,22 @@ saturating-sub-requires c κs = search needs
 at-ceiling-requires : tie.Need-at-ceiling-requires
 at-ceiling-requires c κs = omega (arith, c .before .before .before .before .before .pre .0 .guarded, c .saturating-sub .ensures)
 
-returns-2 : tie.Need-returns-2
-unfolding decision ofBits
-returns-2 c = search (cases, ← c .before .at-ceiling .ensures, ← c .before .before .saturating-sub .ensures, ← c .before .before .before .before .before .search-down .ensures)
-
 rival-requires : tie.Need-rival-requires
 rival-requires c κs = search needs
 
 crowded-requires : tie.Need-crowded-requires
 crowded-requires c κs = search needs
 
+returns-2 : tie.Need-returns-2
+unfolding decision ofBits
+returns-2 c = search (cases, ← c .before .before .before .at-ceiling .ensures, ← c .before .before .before .before .saturating-sub .ensures, ← c .before .before .before .before .before .before .before .search-down .ensures)
+
 returns-3 : tie.Need-returns-3
 unfolding decision ofBits
 returns-3 c =
-    let c1 = c .before .before .before .before in
-    let c2 = c1 .before .before .before .before in
-    search (cases, ← c .before .crowded .ensures, ← c .before .before .rival .ensures, ← c1 .at-ceiling .ensures, ← c1 .before .saturating-sub .ensures, ← c2 .search-down .ensures)
+    let c1 = c .before .before .before in
+    let c2 = c1 .before .before .before .before .before in
+    search (cases, ← c .before .before .crowded .ensures, ← c1 .rival .ensures, ← c1 .before .at-ceiling .ensures, ← c1 .before .before .saturating-sub .ensures, ← c2 .search-down .ensures)
 
 in-samples-requires : tie.Need-in-samples-requires
 in-samples-requires c κs =
@@ -52,7 +51,7 @@ returns-4 c =
     let c1 = c .before .before .before in
     let c2 = c1 .before .before .before in
     let c3 = c2 .before .before .before in
-    search (cases, ← c .in-samples .ensures, ← c .before .before .crowded .ensures, ← c1 .rival .ensures, ← c1 .before .before .at-ceiling .ensures, ← c2 .saturating-sub .ensures, ← c3 .search-down .ensures)
+    search (cases, ← c .in-samples .ensures, ← c1 .crowded .ensures, ← c1 .before .rival .ensures, ← c1 .before .before .at-ceiling .ensures, ← c2 .saturating-sub .ensures, ← c3 .search-down .ensures)
 
 pub decide-spec : {M : Type 1} → statement M
 decide-spec =
@@ -62,9 +61,9 @@ decide-spec =
     returns
     saturating-sub-requires
     at-ceiling-requires
-    returns-2
     rival-requires
     crowded-requires
+    returns-2
     returns-3
     in-samples-requires
     returns-4)

@@ -2,9 +2,9 @@
 use Prim.Native.Nat.{_-_}
 use mathlib.Core.Path.{refl, ap, _∙_}
 use Rattle.folds.specs.Sums.{allFinite}
-use Rattle.scan.proofs.Chains.{holds, fails}
+use Rattle.scan.proofs.Chains.{yes, no, holds, fails}
 use Rattle.scoring.specs.Observing.{mayRead}
-use Rattle.scoring.proofs.Reading.{settles, leaves, window-is}
+use Rattle.scoring.proofs.Reading.{window-is}
 use borrow.Author.Needs.{needs}
 use native.Mathlib.Omega.{arith}
 use Rattle.scoring.proofs.refusal.readable.Statement.{statement}
@@ -15,21 +15,21 @@ uncovered-requires c κs = c .before .before .before .before .pre .bounds
 
 returns : tie.Need-returns
 unfolding mayRead
-returns c = settles (c .before .uncovered .ensures) _ (c .if1 .taken)
+returns c = yes (c .before .uncovered .ensures) _ (c .if1 .taken) refl
 
 ahead-requires : tie.Need-ahead-requires
 ahead-requires c κs = (c .before .before .before .before .before .before .pre .bounds, c .before .before .before .before .before .before .pre .first)
 
 returns-2 : tie.Need-returns-2
 unfolding mayRead
-returns-2 c = leaves (c .before .before .before .uncovered .ensures) (c .before .before .if1 .left) (settles (c .before .ahead .ensures) _ (c .if2 .taken))
+returns-2 c = no (c .before .before .before .uncovered .ensures) _ (c .before .before .if1 .left) (yes (c .before .ahead .ensures) _ (c .if2 .taken) refl)
 
 all-finite-requires : tie.Need-all-finite-requires
 all-finite-requires c κs = search needs
 
 returns-3 : tie.Need-returns-3
 unfolding mayRead
-returns-3 c = leaves (c .before .before .before .before .before .uncovered .ensures) (c .before .before .before .before .if1 .left) (leaves (c .before .before .before .ahead .ensures) (c .before .before .if2 .left) (fails (c .before .all-finite .ensures) _ (c .if3 .taken)))
+returns-3 c = no (c .before .before .before .before .before .uncovered .ensures) _ (c .before .before .before .before .if1 .left) (no (c .before .before .before .ahead .ensures) _ (c .before .before .if2 .left) (fails (c .before .all-finite .ensures) _ (c .if3 .taken)))
 
 saturating-sub-requires : tie.Need-saturating-sub-requires
 saturating-sub-requires c κs = search needs
@@ -54,7 +54,7 @@ returns-4 c =
     let a = c4 .args in
     let s = a .scan in
     let window = c .before .bins-finite .ensures ∙ ap allFinite (window-is (a .slack) (s .geometry) (s .far .next) (s .near .first) (a .envelope .now) _ _ (c1 .saturating-sub .ensures) refl (c4 .pre .envelope)) in
-    leaves (c3 .uncovered .ensures) (c2 .before .before .if1 .left) (leaves (c2 .before .ahead .ensures) (c2 .if2 .left) (holds (c1 .before .before .all-finite .ensures) (c1 .before .if3 .left) (fails window _ (c .if4 .taken))))
+    no (c3 .uncovered .ensures) _ (c2 .before .before .if1 .left) (no (c2 .before .ahead .ensures) _ (c2 .if2 .left) (holds (c1 .before .before .all-finite .ensures) (c1 .before .if3 .left) (fails window _ (c .if4 .taken))))
 
 all-finite64-requires : tie.Need-all-finite64-requires
 all-finite64-requires c κs = search needs
@@ -69,7 +69,7 @@ returns-5 c =
     let a = c4 .args in
     let s = a .scan in
     let window = c .before .before .bins-finite .ensures ∙ ap allFinite (window-is (a .slack) (s .geometry) (s .far .next) (s .near .first) (a .envelope .now) _ _ (c1 .saturating-sub .ensures) refl (c4 .pre .envelope)) in
-    leaves (c3 .uncovered .ensures) (c2 .before .before .if1 .left) (leaves (c2 .before .ahead .ensures) (c2 .if2 .left) (holds (c1 .before .before .all-finite .ensures) (c1 .before .if3 .left) (holds window (c .before .if4 .left) (c .all-finite64 .ensures))))
+    no (c3 .uncovered .ensures) _ (c2 .before .before .if1 .left) (no (c2 .before .ahead .ensures) _ (c2 .if2 .left) (holds (c1 .before .before .all-finite .ensures) (c1 .before .if3 .left) (holds window (c .before .if4 .left) (c .all-finite64 .ensures))))
 
 pub readable-spec : {M : Type 1} → statement M
 readable-spec =
