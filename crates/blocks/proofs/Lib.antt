@@ -1,3 +1,4 @@
 pub mod Pushing
+pub mod Holds
 pub mod Calls
 pub mod Determined

@@ -1,2 +1,3 @@
 -- What the functions behind the pushes ask of their arguments. What the pushes do is defined in crate coarse.
 pub mod Ready
+pub mod Envelope

@@ -1,7 +1,12 @@
+-- Of the definitions: rows of document 01 and scripted scans, by computation.
+pub mod Rows
+pub mod Runs
+-- Laws of choices and lists, allowed settings, sizes of rounded results and of scores.
 pub mod Laws
 pub mod Settings
 pub mod Sizes
 pub mod Scores
+-- A stream's own state is never broken (Healthy).
 pub mod Masked
 pub mod Hears
 pub mod Sound
@@ -12,5 +17,6 @@ pub mod Keeps
 pub mod Fresh
 pub mod Earlier
 pub mod Healthy
+-- Demand 3 (Forgets).
 pub mod Alike
 pub mod Forgets
