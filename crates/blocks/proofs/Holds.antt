@@ -3,23 +3,22 @@ use Prim.Native.Nat.{ℕ, zero, suc, _+_, _*_, _/_, _%_, _≤_, _<_}
 use mathlib.Core.Path.{_≡_, refl, sym, ap, _∙_, subst}
 use mathlib.Core.List.{List, [], _∷_, _++_, append-assoc}
 use mathlib.Core.Logic.{_≢_, ⊎-elim}
-use native.Mathlib.Nat.{div-add-mod', mod-lt, add-mul, one-mul, mul-le-mul-right, lt-of-mul-lt-mul-right, eq-or-lt-of-le, le-of-suc-le-suc, le-trans}
+use native.Mathlib.Nat.{div-add-mod', mod-lt, add-mul, one-mul, mul-le-mul-right, lt-of-mul-lt-mul-right, eq-or-lt-of-le}
 use native.Mathlib.Numerals.{add-one}
 use native.Mathlib.Omega.{arith}
 use lib.Dec.{eqb}
-use lib.ListN.{length, set, getD, length-append, length-set, List·getD-append}
+use lib.ListN.{length, set, length-append, length-set, List·getD-append}
 use lib.Seq.{getD-at, getD-set-same, getD-set-other}
-use lib.Ieee.{Float, nan, binary64, add}
+use lib.Ieee.{Float, nan}
 use borrow.Author.Tests.{eqb-true, eqb-false}
-use Rattle.answers.specs.Pick.{pick, pick-case}
-use Rattle.floats.specs.Functions.{magnitude, zero64}
+use Rattle.answers.specs.Pick.{pick-case}
+use Rattle.floats.specs.Functions.{magnitude}
 use Rattle.folds.specs.Sums.{upto, at}
 use Rattle.coarse.specs.Bins.{envelopeLen}
 use Rattle.coarse.specs.State.{newFar}
 use Rattle.coarse.specs.Blocks.{Heard, hear, hearAll, levelOf, summed}
 use Rattle.coarse.specs.declared.Geometry.{Geometry}
-use Rattle.blocks.specs.Ready.{Placed}
-use Rattle.blocks.specs.Envelope.{levelOfBlock, after, HoldsLevels}
+use Rattle.blocks.specs.Envelope.{levelOfBlock, HoldsLevels}
 
 -- ---- two numbers less than l apart have two remainders
 
@@ -129,3 +128,9 @@ module _ (slack : ℕ) (g : Geometry) (some : 0 < g .decimation) (room : 0 < env
 
 pub holds-levels : HoldsLevels
 holds-levels slack g envelope stream j some room l below kept = hears-all slack g some room [] stream _ (begins slack g some room envelope l) .holds j below kept
+
+-- pushes in turn are one push of all their samples
+pub pushes-join : (slack : ℕ) (g : Geometry) (h : Heard) (xs ys : List Float) → hearAll slack g h (xs ++ ys) ≡ hearAll slack g (hearAll slack g h xs) ys
+unfolding hearAll
+pushes-join slack g h [] ys = refl
+pushes-join slack g h (x ∷ xs) ys = pushes-join slack g (hear slack g h x) xs ys

@@ -1,7 +1,7 @@
 -- What a push that is not refused may count on, and its loop.
 use Prim.Native.Nat.{ℕ, _+_, _*_, _/_, _%_, _≤_, _<_}
 use mathlib.Core.Path.{_≡_, refl, sym, ap, _∙_, subst}
-use mathlib.Core.List.{List, [], _∷_}
+use mathlib.Core.List.{List, _∷_}
 use mathlib.Core.Bool.{Bool, true, false, not}
 use native.Mathlib.Nat.{div-add-mod', mod-lt, add-mul, one-mul}
 use native.Mathlib.Numerals.{add-one}
@@ -11,15 +11,15 @@ use lib.ListN.{length, drop, set, length-set, drop-of-length-le}
 use lib.Seq.{drop-cons}
 use lib.Ieee.{Float, nan}
 use lib.Ieee.Scale.{finite}
-use borrow.Author.Tests.{leb-true, ltb-true, eqb-true, eqb-false, eq-eqb, ne-eqb, not-true, not-false}
-use Rattle.answers.specs.Pick.{pick, pick-true, pick-false, pick-case}
+use borrow.Author.Tests.{leb-true, ltb-true, eqb-true, eqb-false, eq-eqb, ne-eqb, not-true}
+use Rattle.answers.specs.Pick.{pick-true, pick-false, pick-case}
 use Rattle.answers.specs.Numbers.{limit}
 use Rattle.answers.proofs.Refusals.{passed, passed-both}
 use Rattle.floats.specs.Functions.{zero64}
 use Rattle.folds.specs.Sums.{allFinite, at}
 use Rattle.coarse.specs.Bins.{envelopeLen, nearLen}
 use Rattle.coarse.specs.State.{farRule, nearRule, keepsRules, geometryRule, finished, full, due, firstRefusals}
-use Rattle.coarse.specs.Blocks.{Heard, Seen, hear, hearAll, gather, dropped, firstBin, withSample, withBlock, levelOf, summed}
+use Rattle.coarse.specs.Blocks.{Heard, hear, hearAll, gather, dropped, firstBin, withSample, withBlock, levelOf, summed}
 use Rattle.coarse.specs.Calls.{farRefusal, nearRefusal}
 use Rattle.coarse.specs.declared.Geometry.{Geometry}
 use Rattle.coarse.specs.declared.Far.{Far}
@@ -27,7 +27,7 @@ use Rattle.coarse.specs.declared.Near.{Near}
 use Rattle.coarse.specs.declared.Scan.{Scan}
 use Rattle.blocks.specs.Ready.{Placed, Hears, HearsAll, Gathers}
 use Rattle.scan.proofs.Chains.{first, second}
-use Rattle.scan.proofs.Passing.{Passed, pass, fits}
+use Rattle.scan.proofs.Passing.{pass, fits}
 
 -- ---- the rules, taken apart
 

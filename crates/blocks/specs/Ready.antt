@@ -1,5 +1,5 @@
 -- What the refusals let pass, as the functions that take a sample ask for it.
-use Prim.Native.Nat.{ℕ, _+_, _≤_, _<_, _*_, _^_}
+use Prim.Native.Nat.{ℕ, _+_, _≤_, _<_, _*_}
 use mathlib.Core.Path.{_≡_}
 use mathlib.Core.List.{List}
 use mathlib.Core.Bool.{true}

@@ -1,12 +1,12 @@
 -- What is known of a state that refusals 1, 2 and 3 let pass.
-use Prim.Native.Nat.{ℕ, suc, _+_, _*_, _/_, _≤_, _<_, max}
-use mathlib.Core.Path.{_≡_, refl, sym, ap, _∙_, subst}
+use Prim.Native.Nat.{ℕ, _+_, _*_, _/_, _≤_, _<_, max}
+use mathlib.Core.Path.{_≡_, refl, sym, ap, _∙_}
 use mathlib.Core.Bool.{Bool, true, false}
 use native.Mathlib.Nat.{max-le, le-max-left, div-le-self, div-le-of-le-mul, le-trans, mul-le-mul, le-div-iff-mul-le, div-lt-iff-lt-mul}
 use native.Mathlib.Omega.{arith}
 use lib.Dec.{leb, ltb, eqb}
 use borrow.Author.Tests.{leb-true, leb-false, eqb-true, lt-ltb, le-ltb}
-use Rattle.answers.specs.Numbers.{allowedRate, allowedCeiling}
+use Rattle.answers.specs.Numbers.{allowedRate}
 use Rattle.answers.proofs.Refusals.{passed}
 use Rattle.coarse.specs.Bins.{inTable, geometryOf, sameGeometry, decimationOf, binRateOf}
 use Rattle.coarse.specs.State.{geometryRule, keepsRules, firstRefusals, due}

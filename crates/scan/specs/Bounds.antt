@@ -1,5 +1,5 @@
 -- How large the numbers of a geometry are, where rate and ceiling are within document 01's table.
-use Prim.Native.Nat.{ℕ, _≤_}
+use Prim.Native.Nat.{_≤_}
 use Rattle.coarse.specs.declared.Geometry.{Geometry}
 
 pub record Bounds (g : Geometry) : Type 0 where

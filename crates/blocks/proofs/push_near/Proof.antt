@@ -1,5 +1,5 @@
 -- `blocks::push_near` meets its contract.
-use mathlib.Core.Path.{_≡_, sym, _∙_}
+use mathlib.Core.Path.{sym, _∙_}
 use Rattle.blocks.proofs.Calls.{not-taken, is-ignored, is-dropped, is-taken}
 use Rattle.blocks.proofs.Pushing.{gathers, divisible}
 use borrow.Author.Needs.{needs}

@@ -1,10 +1,9 @@
 -- `blocks::far::hear_all` meets its contract: the invariant is `Going`.
-use Prim.Native.Nat.{_≤_, _-_}
-use mathlib.Core.Path.{_≡_, _∙_, ap, refl}
+use Prim.Native.Nat.{_-_}
+use mathlib.Core.Path.{_≡_, refl}
 use native.Mathlib.Omega.{arith}
 use lib.ListN.{length}
 use borrow.Author.Needs.{needs}
-use Rattle.coarse.specs.Blocks.{Heard}
 use Rattle.blocks.proofs.Pushing.{Going, starts, hears, hears-next, ends}
 use Rattle.blocks.proofs.far.hear_all.Statement.{statement}
 use Rattle.blocks.proofs.far.hear_all.Tie as tie

@@ -1,8 +1,8 @@
 -- `blocks::level::summed` meets its contract: a finite value is widened as it is.
-use mathlib.Core.Path.{_≡_, ap}
+use mathlib.Core.Path.{_≡_}
 use mathlib.Core.Bool.{true, not, false≢true}
 use lib.Dec.{T}
-use lib.Ieee.{Float, nan, inf, fin, binary64, fits, isNan, add}
+use lib.Ieee.{Float, nan, inf, fin, binary64, fits, isNan}
 use lib.Ieee.Fits.{and-i, fits-widens}
 use lib.Ieee.Scale.{finite}
 use borrow.Author.Needs.{needs}
