@@ -193,6 +193,7 @@ fn observe_with(
     )
 }
 
+// A full frame is scored: one case of nine. Refused, nothing is written and the frame still waits.
 pub fn observe(
     scan: Scan,
     envelope: &[f32],

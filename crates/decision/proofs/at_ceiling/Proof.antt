@@ -1,7 +1,5 @@
 -- `decision::at_ceiling` meets its contract.
-use Prim.Native.Nat.{_-_}
 use Rattle.coarse.specs.Scoring.{atCeiling}
-use borrow.Author.Needs.{needs}
 use borrow.Author.Needs.{needs}
 use Rattle.decision.proofs.at_ceiling.Statement.{statement}
 use Rattle.decision.proofs.at_ceiling.Tie as tie

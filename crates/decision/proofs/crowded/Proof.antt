@@ -1,5 +1,4 @@
 -- `decision::crowded` meets its contract: by its tests.
-use Prim.Native.Nat.{_-_}
 use lib.Ieee.{ofBits}
 use Rattle.answers.proofs.Cases.{cases}
 use Rattle.coarse.specs.Scoring.{crowdedBy}

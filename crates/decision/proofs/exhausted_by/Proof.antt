@@ -1,7 +1,5 @@
 -- `decision::exhausted_by` meets its contract: by its tests.
-use Prim.Native.Nat.{_-_}
 use Rattle.answers.proofs.Cases.{cases}
-use borrow.Author.Needs.{needs}
 use borrow.Author.Needs.{needs}
 use Rattle.decision.proofs.exhausted_by.Statement.{statement}
 use Rattle.decision.proofs.exhausted_by.Tie as tie

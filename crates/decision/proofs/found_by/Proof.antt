@@ -1,6 +1,4 @@
 -- `decision::found_by` meets its contract, case by case.
-use Prim.Native.Nat.{_-_}
-use borrow.Author.Needs.{needs}
 use borrow.Author.Needs.{needs}
 use Rattle.decision.proofs.found_by.Statement.{statement}
 use Rattle.decision.proofs.found_by.Tie as tie

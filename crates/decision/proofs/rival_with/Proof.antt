@@ -1,7 +1,5 @@
 -- `decision::rival_with` meets its contract: by its tests.
-use Prim.Native.Nat.{_-_}
 use Rattle.answers.proofs.Cases.{cases}
-use borrow.Author.Needs.{needs}
 use borrow.Author.Needs.{needs}
 use Rattle.decision.proofs.rival_with.Statement.{statement}
 use Rattle.decision.proofs.rival_with.Tie as tie

@@ -1,5 +1,4 @@
 -- `decision::rule` meets its contract.
-use Prim.Native.Nat.{_-_}
 use mathlib.Core.Path.{ap, _∙_}
 use lib.ListN.{length}
 use Rattle.floats.proofs.Laws.{narrow-only}
@@ -7,7 +6,6 @@ use Rattle.folds.proofs.Laws.{length-table}
 use Rattle.decision.proofs.Fourth.{banks, decides}
 use borrow.Author.Needs.{needs}
 use native.Mathlib.Omega.{arith}
-use borrow.Author.Needs.{needs}
 use Rattle.decision.proofs.rule.Statement.{statement}
 use Rattle.decision.proofs.rule.Tie as tie
 

@@ -1,7 +1,5 @@
 -- `decision::verdict_by` meets its contract.
-use Prim.Native.Nat.{_-_}
 use Rattle.floats.proofs.Laws.{narrow-only}
-use borrow.Author.Needs.{needs}
 use borrow.Author.Needs.{needs}
 use Rattle.decision.proofs.verdict_by.Statement.{statement}
 use Rattle.decision.proofs.verdict_by.Tie as tie

@@ -1,5 +1,5 @@
 -- `folds::search_down` meets its contract. Invariant: what was found is what the definition finds from n on.
-use Prim.Native.Nat.{_≤_, _-_}
+use Prim.Native.Nat.{_≤_}
 use mathlib.Core.Path.{_≡_}
 use mathlib.Core.Bool.{true, false}
 use lib.ListN.{length, drop}

@@ -1,6 +1,6 @@
 -- `lags::centre` meets its contract. Invariant: the first i values stand.
 use Prim.Native.Nat.{_≤_, _-_}
-use mathlib.Core.Path.{_≡_, refl}
+use mathlib.Core.Path.{_≡_}
 use lib.ListN.{length, take, length-set}
 use Rattle.folds.specs.Sums.{table}
 use Rattle.folds.proofs.Laws.{grow, front}
@@ -21,7 +21,7 @@ mean-requires c κs = search needs
 
 loop-holds : tie.Need-loop-holds Inv-loop μ-loop
 unfolding table
-loop-holds c = search (needs, refl)
+loop-holds c = search needs
 
 mul-f32-to-f64-with-nan : tie.Need-mul-f32-to-f64-with-nan Inv-loop μ-loop
 mul-f32-to-f64-with-nan c = search needs

@@ -1,10 +1,8 @@
 -- `lags::energy_at` meets its contract.
-use Prim.Native.Nat.{_-_}
 use mathlib.Core.Path.{refl}
 use lib.Ieee.{le, inFloat}
 use lib.Dec.{le→leb}
 use Rattle.lags.specs.Lags.{energyFrom}
-use borrow.Author.Needs.{needs}
 use borrow.Author.Needs.{needs}
 use Rattle.lags.proofs.energy_at.Statement.{statement}
 use Rattle.lags.proofs.energy_at.Tie as tie

@@ -1,9 +1,7 @@
 -- `lags::mean` meets its contract.
-use Prim.Native.Nat.{_-_}
 use lib.Ieee.{le, inFloat}
 use lib.Dec.{le→leb}
 use Rattle.coarse.specs.Scoring.{meanOf}
-use borrow.Author.Needs.{needs}
 use borrow.Author.Needs.{needs}
 use Rattle.lags.proofs.mean.Statement.{statement}
 use Rattle.lags.proofs.mean.Tie as tie

@@ -1,9 +1,7 @@
 -- `lags::score` meets its contract: the root of the floats is the definition's.
-use Prim.Native.Nat.{_-_}
 use mathlib.Core.Path.{ap}
 use lib.Ieee.{binary64, mul, div}
 use Rattle.floats.proofs.Laws.{root-only}
-use borrow.Author.Needs.{needs}
 use borrow.Author.Needs.{needs}
 use Rattle.lags.proofs.score.Statement.{statement}
 use Rattle.lags.proofs.score.Tie as tie

@@ -1,5 +1,4 @@
 -- `lags::score_block` meets its contract.
-use Prim.Native.Nat.{_-_}
 use mathlib.Core.Path.{refl, ap, _∙_}
 use lib.ListN.{length}
 use lib.Ieee.{ofBits}
@@ -7,7 +6,6 @@ use Rattle.folds.specs.Sums.{table, zeros}
 use Rattle.folds.proofs.Laws.{length-table}
 use Rattle.lags.specs.Lags.{scoreFrom}
 use Rattle.lags.proofs.Blocks.{live}
-use borrow.Author.Needs.{needs}
 use borrow.Author.Needs.{needs}
 use Rattle.lags.proofs.score_block.Statement.{statement}
 use Rattle.lags.proofs.score_block.Tie as tie

@@ -1,9 +1,7 @@
 -- `lags::score_lag` meets its contract.
-use Prim.Native.Nat.{_-_}
 use lib.Ieee.{ofBits}
 use Rattle.answers.proofs.Cases.{cases}
 use Rattle.lags.specs.Lags.{scoreFrom}
-use borrow.Author.Needs.{needs}
 use borrow.Author.Needs.{needs}
 use Rattle.lags.proofs.score_lag.Statement.{statement}
 use Rattle.lags.proofs.score_lag.Tie as tie

@@ -1,11 +1,9 @@
 -- `lags::score_some` meets its contract.
-use Prim.Native.Nat.{_-_}
 use lib.ListN.{length-set}
 use Rattle.folds.proofs.Rewriting.{one-more}
 use Rattle.lags.specs.Lags.{scoreFrom}
 use borrow.Author.Needs.{needs}
 use native.Mathlib.Omega.{arith}
-use borrow.Author.Needs.{needs}
 use Rattle.lags.proofs.score_some.Statement.{statement}
 use Rattle.lags.proofs.score_some.Tie as tie
 

@@ -1,7 +1,5 @@
 -- `lags::write_scores` meets its contract.
-use Prim.Native.Nat.{_-_}
 use Rattle.lags.proofs.Whole.{all-scored}
-use borrow.Author.Needs.{needs}
 use borrow.Author.Needs.{needs}
 use Rattle.lags.proofs.write_scores.Statement.{statement}
 use Rattle.lags.proofs.write_scores.Tie as tie

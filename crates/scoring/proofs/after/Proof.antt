@@ -1,6 +1,4 @@
 -- `scoring::after` meets its contract.
-use Prim.Native.Nat.{_-_}
-use borrow.Author.Needs.{needs}
 use borrow.Author.Needs.{needs}
 use Rattle.scoring.proofs.after.Statement.{statement}
 use Rattle.scoring.proofs.after.Tie as tie

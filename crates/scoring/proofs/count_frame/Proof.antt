@@ -1,5 +1,4 @@
 -- `scoring::count_frame` meets its contract.
-use Prim.Native.Nat.{_-_}
 use mathlib.Core.Path.{sym, ap, _∙_}
 use lib.ListN.{length}
 use Rattle.folds.proofs.Laws.{length-table}
@@ -7,7 +6,6 @@ use Rattle.scoring.proofs.Passing.{small}
 use Rattle.scoring.proofs.Steps.{counts}
 use borrow.Author.Needs.{needs}
 use native.Mathlib.Omega.{arith}
-use borrow.Author.Needs.{needs}
 use Rattle.scoring.proofs.count_frame.Statement.{statement}
 use Rattle.scoring.proofs.count_frame.Tie as tie
 

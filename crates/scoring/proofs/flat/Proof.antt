@@ -1,7 +1,5 @@
 -- `scoring::flat` meets its contract.
-use Prim.Native.Nat.{_-_}
 use Rattle.coarse.specs.Scoring.{flat}
-use borrow.Author.Needs.{needs}
 use borrow.Author.Needs.{needs}
 use Rattle.scoring.proofs.flat.Statement.{statement}
 use Rattle.scoring.proofs.flat.Tie as tie

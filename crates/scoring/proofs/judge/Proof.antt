@@ -1,10 +1,8 @@
 -- `scoring::judge` meets its contract: by its tests, in their order.
-use Prim.Native.Nat.{_-_}
 use mathlib.Core.Path.{_∙_}
 use Rattle.scoring.proofs.Steps.{is-quiet, is-flat, is-counted}
 use borrow.Author.Needs.{needs}
 use native.Mathlib.Omega.{arith}
-use borrow.Author.Needs.{needs}
 use Rattle.scoring.proofs.judge.Statement.{statement}
 use Rattle.scoring.proofs.judge.Tie as tie
 

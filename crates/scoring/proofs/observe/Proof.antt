@@ -1,5 +1,4 @@
 -- `scoring::observe` meets its contract.
-use Prim.Native.Nat.{_-_}
 use borrow.Author.Needs.{needs}
 use Rattle.scoring.proofs.observe.Statement.{statement}
 use Rattle.scoring.proofs.observe.Tie as tie

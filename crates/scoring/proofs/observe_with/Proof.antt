@@ -1,5 +1,4 @@
 -- `scoring::observe_with` meets its contract: the refusal comes first.
-use Prim.Native.Nat.{_-_}
 use mathlib.Core.Path.{sym, _∙_}
 use Rattle.scoring.specs.Observing.{lent}
 use Rattle.scoring.proofs.Passing.{ready}

@@ -1,7 +1,5 @@
 -- `scoring::quiet` meets its contract.
-use Prim.Native.Nat.{_-_}
 use Rattle.coarse.specs.Scoring.{quiet}
-use borrow.Author.Needs.{needs}
 use borrow.Author.Needs.{needs}
 use Rattle.scoring.proofs.quiet.Statement.{statement}
 use Rattle.scoring.proofs.quiet.Tie as tie

@@ -1,5 +1,4 @@
 -- `scoring::score` meets its contract: by its tests, in their order.
-use Prim.Native.Nat.{_-_}
 use mathlib.Core.Path.{ap, _∙_}
 use lib.ListN.{length}
 use Rattle.folds.proofs.Laws.{length-table}

@@ -1,9 +1,7 @@
 -- `scoring::refusal::all_lengths` meets its contract: list by list.
-use Prim.Native.Nat.{_-_}
 use mathlib.Core.Path.{refl, sym, _∙_}
 use Rattle.scan.proofs.Chains.{equal}
 use Rattle.scoring.proofs.Reading.{unequal}
-use borrow.Author.Needs.{needs}
 use borrow.Author.Needs.{needs}
 use Rattle.scoring.proofs.refusal.all_lengths.Statement.{statement}
 use Rattle.scoring.proofs.refusal.all_lengths.Tie as tie

@@ -1,5 +1,4 @@
 -- `scoring::refusal::readable` meets its contract: by its tests, in their order.
-use Prim.Native.Nat.{_-_}
 use mathlib.Core.Path.{refl, ap, _∙_}
 use Rattle.folds.specs.Sums.{allFinite}
 use Rattle.scan.proofs.Chains.{yes, no, holds, fails}

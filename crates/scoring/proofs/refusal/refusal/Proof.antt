@@ -1,5 +1,4 @@
 -- `scoring::refusal::refusal` meets its contract: the refusals in their order.
-use Prim.Native.Nat.{_-_}
 use mathlib.Core.Path.{sym, _∙_}
 use mathlib.Core.Bool.{true, false}
 use Rattle.answers.specs.Pick.{pick}

@@ -1,8 +1,6 @@
 -- `scoring::window::ahead` meets its contract.
-use Prim.Native.Nat.{_-_}
 use Rattle.answers.proofs.Cases.{cases}
 use Rattle.coarse.specs.Scoring.{ahead}
-use borrow.Author.Needs.{needs}
 use borrow.Author.Needs.{needs}
 use Rattle.scoring.proofs.window.ahead.Statement.{statement}
 use Rattle.scoring.proofs.window.ahead.Tie as tie

@@ -1,8 +1,6 @@
 -- `scoring::window::bin_at` meets its contract: by its test.
-use Prim.Native.Nat.{_-_}
 use lib.Ieee.{ofBits}
 use Rattle.answers.proofs.Cases.{cases}
-use borrow.Author.Needs.{needs}
 use borrow.Author.Needs.{needs}
 use Rattle.scoring.proofs.window.bin_at.Statement.{statement}
 use Rattle.scoring.proofs.window.bin_at.Tie as tie

@@ -1,9 +1,7 @@
 -- `scoring::window::slot_after` meets its contract: by its test.
-use Prim.Native.Nat.{_-_}
 use Rattle.scoring.proofs.Slots.{further, wraps}
 use borrow.Author.Needs.{needs}
 use native.Mathlib.Omega.{arith}
-use borrow.Author.Needs.{needs}
 use Rattle.scoring.proofs.window.slot_after.Statement.{statement}
 use Rattle.scoring.proofs.window.slot_after.Tie as tie
 

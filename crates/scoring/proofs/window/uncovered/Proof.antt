@@ -1,8 +1,6 @@
 -- `scoring::window::uncovered` meets its contract: by its tests.
-use Prim.Native.Nat.{_-_}
 use Rattle.answers.proofs.Cases.{cases}
 use Rattle.coarse.specs.Scoring.{uncovered}
-use borrow.Author.Needs.{needs}
 use borrow.Author.Needs.{needs}
 use Rattle.scoring.proofs.window.uncovered.Statement.{statement}
 use Rattle.scoring.proofs.window.uncovered.Tie as tie
