@@ -1,0 +1,69 @@
+-- A history of the ring: any list of pushes, each a list of patterns, from a making on.
+use Prim.Native.Nat.{ℕ, zero, suc, _+_, _≤_, _<_}
+use mathlib.Core.Path.{_≡_}
+use mathlib.Core.List.{List, [], _∷_, _++_}
+use lib.ListN.{length, getD}
+use Rattle.answers.specs.Refusals.{unless}
+use Rattle.ring.specs.declared.Ring.{Ring}
+use Rattle.ring.specs.declared.Kept.{Kept}
+use Rattle.ring.specs.declared.Kept.the-variants.{Refused, NotKept, At}
+use Rattle.ring.specs.Told.{keptTold, countTold, at, notKept, counted}
+use Rattle.ring.specs.Ring.{made, pushRefusal, pushed, pushedBuf, gotten, nextAbs, droppedOf}
+
+-- a ring with the buffer that is lent to its calls
+pub record Lent : Type 0 where
+  pub ring : Ring
+  pub buf : List ℕ
+
+abbrev pub capacity : Lent → ℕ
+capacity l = length (l .buf)
+
+-- a ring made over a buffer
+abbrev pub begin : List ℕ → Lent
+begin buf = record { ring = made (length buf) .ring; buf = buf }
+
+-- one push, as the contract of `push` has it
+abbrev pub push : Lent → List ℕ → Lent
+push l xs = record { ring = pushed (l .ring) (capacity l) (length xs) .ring; buf = pushedBuf (l .ring) (l .buf) xs }
+
+abbrev pub pushes : Lent → List (List ℕ) → Lent
+pushes l [] = l
+pushes l (xs ∷ more) = pushes (push l xs) more
+
+-- the samples of one push that are accepted: all of them or none
+abbrev pub taken : Lent → List ℕ → List ℕ
+taken l xs = unless (pushRefusal (l .ring) (capacity l) (length xs)) [] xs
+
+-- the accepted samples of all pushes, one after the other
+abbrev pub accepted : Lent → List (List ℕ) → List ℕ
+accepted l [] = []
+accepted l (xs ∷ more) = taken l xs ++ accepted (push l xs) more
+
+-- what `get` answers, by number and values
+abbrev pub get : Lent → ℕ → List ℕ
+get l a = keptTold (gotten (l .ring) (capacity l) a)
+
+-- `get` of index a finds the pattern x in the buffer
+pub record Finds (l : Lent) (a x : ℕ) : Type 0 where
+  pub place : ℕ
+  pub answer : get l a ≡ at place
+  pub inside : place < capacity l
+  pub holds : getD (l .buf) place 0 ≡ x
+
+abbrev pub missing : Kept → ℕ
+missing (Refused number) = 0
+missing NotKept = 1
+missing (At place) = 0
+
+-- how many of the indices below n are not kept
+abbrev pub missingBelow : Lent → ℕ → ℕ
+missingBelow l zero = 0
+missingBelow l (suc n) = missingBelow l n + missing (gotten (l .ring) (capacity l) n)
+
+-- the ring has `all` as its history: absolute index a is the a-th sample of it
+pub record Remembers (l : Lent) (all : List ℕ) : Type 0 where
+  pub next : countTold (nextAbs (l .ring) (capacity l)) ≡ counted (length all)
+  pub kept : (a : ℕ) → a < length all → length all ≤ a + capacity l → Finds l a (getD all a 0)
+  pub tooOld : (a : ℕ) → a + capacity l < length all → get l a ≡ notKept
+  pub notYet : (a : ℕ) → length all ≤ a → get l a ≡ notKept
+  pub dropped : countTold (droppedOf (l .ring) (capacity l)) ≡ counted (missingBelow l (length all))
