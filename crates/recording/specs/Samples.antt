@@ -1,0 +1,74 @@
+-- Document 01, "Replay": the samples of an event, and how they are counted.
+use Prim.Native.Nat.{ℕ, zero, suc, _+_, _*_, _/_, min}
+use mathlib.Core.Bool.{Bool}
+use mathlib.Core.List.{List, [], _∷_, _++_}
+use lib.Dec.{leb}
+use lib.Ieee.{Float, binary32, ofBits}
+use lib.ListN.{length, take, drop}
+use Rattle.answers.specs.Pick.{pick, both}
+use Rattle.recording.specs.Bytes.{numberAt}
+use Rattle.recording.specs.declared.Header.{Header}
+use Rattle.recording.specs.declared.Lengths.{Lengths}
+use Rattle.recording.specs.declared.Used.{Used}
+use Rattle.recording.specs.declared.Event.{Event}
+use Rattle.recording.specs.declared.Event.the-variants.{Far, Near, Rearm, DiscardNear, Unconfident, Interior, Edge, Discontinuity}
+use Rattle.recording.specs.declared.Admission.{Admission}
+use Rattle.recording.specs.declared.Admission.the-variants.{Enough, Lacking}
+
+-- ---- samples from bytes
+
+-- the f32 in the four bytes from 4 k on; each pattern of a NaN is the NaN
+abbrev pub sampleAt : List ℕ → ℕ → Float
+sampleAt s k = ofBits binary32 (numberAt 4 s (4 * k))
+
+-- the first n samples that the bytes hold
+unfoldable pub samplesIn : List ℕ → ℕ → List Float
+samplesIn s zero = []
+samplesIn s (suc n) = samplesIn s n ++ sampleAt s n ∷ []
+
+-- as many as both the bytes and the buffer hold
+abbrev pub decodedCount : List ℕ → List Float → ℕ
+decodedCount s out = min (length out) (length s / 4)
+
+-- the buffer afterwards: these samples at its start
+unfoldable pub decoded : List ℕ → List Float → List Float
+decoded s out = samplesIn s (decodedCount s out) ++ drop (decodedCount s out) out
+
+-- ---- the samples of an event, as a part of the far or the near piece
+
+-- `count` samples from index `at` on, or none where there are not so many
+unfoldable pub part : List Float → ℕ → ℕ → List Float
+part piece at count = pick (leb (at + count) (length piece)) (take count (drop at piece)) []
+
+-- `f` samples of the far piece and `n` of the near piece are used already
+unfoldable pub samplesOf : List Float → List Float → Event → ℕ → ℕ → List Float
+samplesOf far near (Far count) f n = part far f count
+samplesOf far near (Near count first) f n = part near n count
+samplesOf far near Rearm f n = []
+samplesOf far near DiscardNear f n = []
+samplesOf far near Unconfident f n = []
+samplesOf far near (Interior alignment delay) f n = []
+samplesOf far near (Edge alignment delay) f n = []
+samplesOf far near Discontinuity f n = []
+
+-- ---- whether there are samples for an event
+
+-- so many samples of an input are within the header's total, and their bytes are there
+abbrev pub supplied : ℕ → ℕ → ℕ → Bool
+supplied samples total length = both (leb samples total) (leb (4 * samples) length)
+
+abbrev pub usedUp : ℕ → ℕ → Used
+usedUp f n = record { far = f; near = n }
+
+-- what is used after the event; lacking if it passes a total, or if its input is short
+unfoldable pub admitted : Header → Lengths → Used → Event → Admission
+admitted h l u (Far count) =
+    pick (supplied (u .far + count) (h .far) (l .far)) (Enough (usedUp (u .far + count) (u .near))) Lacking
+admitted h l u (Near count first) =
+    pick (supplied (u .near + count) (h .near) (l .near)) (Enough (usedUp (u .far) (u .near + count))) Lacking
+admitted h l u Rearm = Enough u
+admitted h l u DiscardNear = Enough u
+admitted h l u Unconfident = Enough u
+admitted h l u (Interior alignment delay) = Enough u
+admitted h l u (Edge alignment delay) = Enough u
+admitted h l u Discontinuity = Enough u

@@ -1,0 +1,311 @@
+// A recording: its header, its events and their samples.
+ghost use mathlib.Core.Path.{_≡_};
+ghost use Prim.Native.Nat.{_+_, _^_, _≤_, _<_, min};
+ghost use lib.Ieee.{binary32, ofBits};
+ghost use lib.ListN.{length, getD};
+ghost use Rattle.recording.specs.Bytes.{numberAt};
+ghost use Rattle.recording.specs.Recording;
+ghost use Rattle.answers.specs.Pick.{both};
+ghost use Rattle.recording.specs.Recording.{opened, someSamples, onlyIf, eventOf, eventAt};
+ghost use Rattle.recording.specs.Samples;
+ghost use Rattle.recording.specs.Samples.{samplesOf, decoded, decodedCount, admitted};
+
+// far and near are totals of samples.
+pub struct Header {
+    pub rate: u32,
+    pub ceiling: u32,
+    pub events: u32,
+    pub far: u32,
+    pub near: u32,
+}
+
+pub enum Start {
+    Opened(Header),
+    BadHeader,
+}
+
+pub enum Event {
+    Far { count: u32 },
+    Near { count: u32, first: u64 },
+    Rearm,
+    DiscardNear,
+    Unconfident,
+    Interior { alignment: u32, delay: u64 },
+    Edge { alignment: u32, delay: u64 },
+    Discontinuity,
+}
+
+pub enum Entry {
+    Good(Event),
+    Bad,
+}
+
+// How many samples of each input the events so far have used.
+pub struct Used {
+    pub far: u64,
+    pub near: u64,
+}
+
+// How many bytes the two sample inputs have.
+pub struct Lengths {
+    pub far: u64,
+    pub near: u64,
+}
+
+pub enum Admission {
+    Enough(Used),
+    Lacking,
+}
+
+fn byte(s: &[u8], at: usize) -> u64
+    requires { ⌜ at < length (now s) ⌝ }
+    ensures { λ r. ⌜ (r ≡ getD (now (s .entry)) at 0) × (r < 256) ⌝ }
+{
+    s[at] as u64
+}
+
+// The number in four bytes.
+fn four(s: &[u8], at: usize) -> u64
+    requires { ⌜ at + 4 ≤ length (now s) ⌝ }
+    ensures { λ r. ⌜ (r ≡ numberAt 4 (now (s .entry)) at) × (r < 2 ^ 32) ⌝ }
+{
+    byte(s, at) + 256 * byte(s, at + 1) + 65536 * byte(s, at + 2) + 16777216 * byte(s, at + 3)
+}
+
+fn u32_at(s: &[u8], at: usize) -> u32
+    requires { ⌜ at + 4 ≤ length (now s) ⌝ }
+    ensures { λ r. ⌜ r ≡ numberAt 4 (now (s .entry)) at ⌝ }
+{
+    four(s, at) as u32
+}
+
+fn u64_at(s: &[u8], at: usize) -> u64
+    requires { ⌜ at + 8 ≤ length (now s) ⌝ }
+    ensures { λ r. ⌜ r ≡ numberAt 8 (now (s .entry)) at ⌝ }
+{
+    four(s, at) + 4294967296 * four(s, at + 4)
+}
+
+// The header at the start of the event input.
+pub fn open(s: &[u8]) -> Start
+    ensures { λ r. ⌜ r ≡ opened (now (s .entry)) ⌝ }
+{
+    if s.len() < 24 {
+        return Start::BadHeader;
+    }
+    if u32_at(s, 12) != 24 {
+        return Start::BadHeader;
+    }
+    let rate = u32_at(s, 0);
+    if !answers::allowed_rate(rate) {
+        return Start::BadHeader;
+    }
+    let ceiling = u32_at(s, 4);
+    if !answers::allowed_ceiling(ceiling) {
+        return Start::BadHeader;
+    }
+    Start::Opened(Header {
+        rate,
+        ceiling,
+        events: u32_at(s, 8),
+        far: u32_at(s, 16),
+        near: u32_at(s, 20),
+    })
+}
+
+fn unused(count: u32, number: u64) -> bool
+    ensures { λ r. ⌜ r ≡ both (Recording.unused count) (Recording.unused number) ⌝ }
+{
+    if count != 0 {
+        return false;
+    }
+    number == 0
+}
+
+fn some_samples(count: u32) -> bool
+    ensures { λ r. ⌜ r ≡ someSamples count ⌝ }
+{
+    answers::within(1, 4096, count)
+}
+
+fn far_event(count: u32, number: u64) -> Entry
+    ensures { λ r. ⌜ r ≡ onlyIf (both (someSamples count) (Recording.unused number)) (Event.Far count) ⌝ }
+{
+    if !some_samples(count) {
+        return Entry::Bad;
+    }
+    if number != 0 {
+        return Entry::Bad;
+    }
+    Entry::Good(Event::Far { count })
+}
+
+fn plain_event(count: u32, number: u64, event: Event) -> Entry
+    ensures { λ r. ⌜ r ≡ onlyIf (both (Recording.unused count) (Recording.unused number)) event ⌝ }
+{
+    if unused(count, number) {
+        Entry::Good(event)
+    } else {
+        Entry::Bad
+    }
+}
+
+fn event_of(kind: u32, count: u32, number: u64) -> Entry
+    ensures { λ r. ⌜ r ≡ eventOf kind count number ⌝ }
+{
+    match kind {
+        1 => far_event(count, number),
+        2 => if some_samples(count) {
+            Entry::Good(Event::Near {
+                count,
+                first: number,
+            })
+        } else {
+            Entry::Bad
+        },
+        3 => plain_event(count, number, Event::Rearm),
+        4 => plain_event(count, number, Event::DiscardNear),
+        5 => plain_event(count, number, Event::Unconfident),
+        6 => Entry::Good(Event::Interior {
+            alignment: count,
+            delay: number,
+        }),
+        7 => Entry::Good(Event::Edge {
+            alignment: count,
+            delay: number,
+        }),
+        8 => plain_event(count, number, Event::Discontinuity),
+        _ => Entry::Bad,
+    }
+}
+
+// The event in the 16 bytes of s from at on.
+pub fn event_at(s: &[u8], at: usize) -> Entry
+    ensures { λ r. ⌜ r ≡ eventAt (now (s .entry)) at ⌝ }
+{
+    if s.len() < 16 {
+        return Entry::Bad;
+    }
+    if s.len() - 16 < at {
+        return Entry::Bad;
+    }
+    event_of(u32_at(s, at), u32_at(s, at + 4), u64_at(s, at + 8))
+}
+
+fn supplied(used: u64, count: u32, total: u32, length: u64) -> bool
+    ensures { λ r. ⌜ r ≡ Samples.supplied (used + count) total length ⌝ }
+{
+    let most = total as u64;
+    if most < used {
+        return false;
+    }
+    let samples = used + count as u64;
+    if most < samples {
+        return false;
+    }
+    4 * samples <= length
+}
+
+// Whether the totals and the bytes of the two sample inputs allow the event, and what is used after it.
+pub fn admit(header: Header, lengths: Lengths, used: Used, event: Event) -> Admission
+    ensures { λ r. ⌜ r ≡ admitted header lengths used event ⌝ }
+{
+    match event {
+        Event::Far { count } => {
+            if supplied(used.far, count, header.far, lengths.far) {
+                Admission::Enough(Used {
+                    far: used.far + count as u64,
+                    near: used.near,
+                })
+            } else {
+                Admission::Lacking
+            }
+        }
+        Event::Near { count, first: _ } => {
+            if supplied(used.near, count, header.near, lengths.near) {
+                Admission::Enough(Used {
+                    far: used.far,
+                    near: used.near + count as u64,
+                })
+            } else {
+                Admission::Lacking
+            }
+        }
+        Event::Rearm => Admission::Enough(used),
+        Event::DiscardNear => Admission::Enough(used),
+        Event::Unconfident => Admission::Enough(used),
+        Event::Interior {
+            alignment: _,
+            delay: _,
+        } => Admission::Enough(used),
+        Event::Edge {
+            alignment: _,
+            delay: _,
+        } => Admission::Enough(used),
+        Event::Discontinuity => Admission::Enough(used),
+    }
+}
+
+fn part(piece: &[f32], at: usize, count: u32) -> &[f32]
+    ensures { λ r. ⌜ now r ≡ Samples.part (now (piece .entry)) at count ⌝ }
+{
+    let n = count as usize;
+    if at <= piece.len() {
+        if n <= piece.len() - at {
+            return &piece[at..at + n];
+        }
+    }
+    &piece[0..0]
+}
+
+// The samples of an event: a part of the far or of the near piece, of which f and n samples are used already.
+pub fn samples<'a>(far: &'a [f32], near: &'a [f32], event: Event, f: usize, n: usize) -> &'a [f32]
+    ensures { λ r. ⌜ now r ≡ samplesOf (now (far .entry)) (now (near .entry)) event f n ⌝ }
+{
+    match event {
+        Event::Far { count } => part(far, f, count),
+        Event::Near { count, first: _ } => part(near, n, count),
+        Event::Rearm => &far[0..0],
+        Event::DiscardNear => &far[0..0],
+        Event::Unconfident => &far[0..0],
+        Event::Interior {
+            alignment: _,
+            delay: _,
+        } => &far[0..0],
+        Event::Edge {
+            alignment: _,
+            delay: _,
+        } => &far[0..0],
+        Event::Discontinuity => &far[0..0],
+    }
+}
+
+// The f32 of a bit pattern. Every NaN's pattern is a NaN.
+pub fn sample(bits: u32) -> f32
+    ensures { λ r. ⌜ r ≡ ofBits binary32 bits ⌝ }
+{
+    let size = bits % 0x8000_0000;
+    if 0x7f80_0000 < size {
+        return 0.0 / 0.0;
+    }
+    f32::from_bits(bits)
+}
+
+fn less(a: usize, b: usize) -> usize
+    ensures { λ r. ⌜ r ≡ min a b ⌝ }
+{
+    if a < b { a } else { b }
+}
+
+// Fills out from its start with the samples that the bytes s hold, and answers how many.
+pub fn decode(s: &[u8], out: &mut [f32]) -> usize
+    ensures { λ r. ⌜ (r ≡ decodedCount (now (s .entry)) (now (out .entry))) × (now (out .exit) ≡ decoded (now (s .entry)) (now (out .entry))) ⌝ }
+{
+    let n = less(out.len(), s.len() / 4);
+    let mut i = 0;
+    while i < n {
+        out[i] = sample(u32_at(s, 4 * i));
+        i += 1;
+    }
+    n
+}
