@@ -1,0 +1,13 @@
+// A recording replayed, one event at a time: each call writes the lines that its event causes.
+use coarse::Scan;
+use recording::Used;
+use tracker::Tracker;
+
+// What is carried from one event to the next, beside the scan's lent buffers. frames and cycles are the numbers of the next of each.
+pub struct Session {
+    pub scan: Scan,
+    pub tracker: Tracker,
+    pub frames: u64,
+    pub cycles: u64,
+    pub used: Used,
+}
