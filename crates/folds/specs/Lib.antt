@@ -1,3 +1,4 @@
 -- Sums in one fixed order, tables, and the searches for a largest value.
 pub mod Sums
+pub mod Rewriting
 pub mod Search

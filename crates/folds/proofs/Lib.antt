@@ -1,0 +1,6 @@
+-- Laws that the crates above cite: of sums and tables, of values rewritten in place, of the coarse search, of tests and clearing.
+pub mod Laws
+pub mod Rewriting
+pub mod Peaks
+pub mod Finite
+pub mod Clearing

@@ -1,0 +1,120 @@
+// The parts of a state: as new, and a state with one part anew.
+use coarse::Change;
+use coarse::Changed;
+use coarse::Far;
+use coarse::Found;
+use coarse::Geometry;
+use coarse::Near;
+use coarse::Scan;
+use coarse::Verdict;
+ghost use mathlib.Core.Path.{_≡_};
+ghost use Rattle.coarse.specs.State.{newFar, newNear, newVerdict};
+ghost use Rattle.coarse.specs.Calls.{withFar, withNear, withNearVerdict, changedBy};
+ghost use Rattle.coarse.specs.declared.Change.the-variants as Change;
+
+pub fn new_far() -> Far
+    ensures { λ r. ⌜ r ≡ newFar ⌝ }
+{
+    Far {
+        next: 0,
+        sum: 0.0,
+        count: 0,
+        accepted: 0,
+    }
+}
+
+pub fn new_near() -> Near
+    ensures { λ r. ⌜ r ≡ newNear ⌝ }
+{
+    Near {
+        len: 0,
+        sum: 0.0,
+        count: 0,
+        first: 0,
+    }
+}
+
+pub fn new_verdict() -> Verdict
+    ensures { λ r. ⌜ r ≡ newVerdict ⌝ }
+{
+    Verdict {
+        banked: 0,
+        frames: 0,
+        last: 0.0,
+        found: Found::Nothing,
+        beyond: false,
+        exhausted: false,
+    }
+}
+
+// A scan as it is made.
+pub fn as_new(geometry: Geometry) -> Scan
+    ensures { λ r. ⌜ r ≡ record { geometry = geometry; far = newFar; near = newNear; verdict = newVerdict } ⌝ }
+{
+    Scan {
+        geometry,
+        far: new_far(),
+        near: new_near(),
+        verdict: new_verdict(),
+    }
+}
+
+pub fn with_far(scan: Scan, far: Far) -> Scan
+    ensures { λ r. ⌜ r ≡ withFar scan far ⌝ }
+{
+    let geometry = scan.geometry;
+    let near = scan.near;
+    let verdict = scan.verdict;
+    Scan {
+        geometry,
+        far,
+        near,
+        verdict,
+    }
+}
+
+pub fn with_near(scan: Scan, near: Near) -> Scan
+    ensures { λ r. ⌜ r ≡ withNear scan near ⌝ }
+{
+    let geometry = scan.geometry;
+    let far = scan.far;
+    let verdict = scan.verdict;
+    Scan {
+        geometry,
+        far,
+        near,
+        verdict,
+    }
+}
+
+pub fn with_near_verdict(scan: Scan, near: Near, verdict: Verdict) -> Scan
+    ensures { λ r. ⌜ r ≡ withNearVerdict scan near verdict ⌝ }
+{
+    let geometry = scan.geometry;
+    let far = scan.far;
+    Scan {
+        geometry,
+        far,
+        near,
+        verdict,
+    }
+}
+
+// A refusal returns its number and the state it was given.
+pub fn refused(scan: Scan, number: u8) -> Changed
+    ensures { λ r. ⌜ r ≡ changedBy (Change.Refused number) scan ⌝ }
+{
+    Changed {
+        scan,
+        answer: Change::Refused(number),
+    }
+}
+
+pub fn done(scan: Scan) -> Changed
+    ensures { λ r. ⌜ r ≡ changedBy Change.Done scan ⌝ }
+{
+    Changed {
+        scan,
+        answer: Change::Done,
+    }
+}
