@@ -9,7 +9,7 @@ use Rattle.units.specs.Units.{samples}
 use Rattle.units.specs.declared.Samples.{Samples}
 use Rattle.coarse.specs.Bins.{fullSlack}
 use Rattle.coarse.specs.State.{Buffers, World}
-use Rattle.coarse.specs.Calls.{pushedFar, pushedNear, observed, rearmed, discarded, Clearing}
+use Rattle.coarse.specs.Calls.{pushedFar, pushedNear, observed, rearmed, discarded, FarPush, Clearing}
 use Rattle.coarse.specs.Steps.{withEnvelope, withLevels, withLagSums}
 use Rattle.coarse.specs.declared.Scan.{Scan}
 use Rattle.coarse.specs.declared.Taking.{Taking}
@@ -65,10 +65,8 @@ withUsed s used = record { scan = s .scan; tracker = s .tracker; frames = s .fra
 
 -- ---- 1 far: one push
 
-unfoldable pub farPlayed : ℕ → Session → Buffers → List Float → Play
-farPlayed e s b xs =
-    let p = pushedFar fullSlack (s .scan) (b .envelope) xs in
-    goesOn (changeLines e (p .changed .answer)) (withScan s (p .changed .scan)) (withEnvelope b (p .envelope))
+abbrev pub farPlayed : ℕ → Session → Buffers → FarPush → Play
+farPlayed e s b p = goesOn (changeLines e (p .changed .answer)) (withScan s (p .changed .scan)) (withEnvelope b (p .envelope))
 
 -- ---- 2 near: one by one, a full frame scored at once. A refusal drops the rest of the event.
 
@@ -130,7 +128,7 @@ seamPlayed e s b =
 -- ---- any event, handed its samples
 
 unfoldable pub eventPlayed : ℕ → Session → Buffers → Event → List Float → Play
-eventPlayed e s b (event.Far count) xs = farPlayed e s b xs
+eventPlayed e s b (event.Far count) xs = farPlayed e s b (pushedFar fullSlack (s .scan) (b .envelope) xs)
 eventPlayed e s b (event.Near count first) xs = logGoesOn (nearPlayed e s b xs first)
 eventPlayed e s b event.Rearm xs = clearPlayed e s b (rearmed (s .scan) (b .lagSums))
 eventPlayed e s b event.DiscardNear xs = clearPlayed e s b (discarded (s .scan) (b .lagSums))

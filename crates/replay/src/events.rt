@@ -1,0 +1,137 @@
+// What the events do. Each function writes the lines that it causes into out, from at on, where there is room for them.
+use coarse::Change;
+use coarse::Changed;
+use coarse::Scan;
+use crate::Session;
+use crate::Told;
+use crate::words;
+use lines::Line;
+use lines::Written;
+use tracker::Answer;
+use tracker::Outcome;
+use tracker::Tracker;
+use units::Samples;
+ghost use mathlib.Core.Path.{_≡_};
+ghost use mathlib.Core.Bool.{true, false};
+ghost use mathlib.Core.List.{[], _∷_};
+ghost use Prim.Native.Nat.{_+_, _≤_};
+ghost use lib.ListN.{length};
+ghost use Rattle.lines.specs.Steps.{Put};
+ghost use Rattle.replay.specs.Words.{changeLines, answerLines, cycleLine, cyclesAfter};
+ghost use Rattle.replay.specs.Events.{withScan, withFrame, withTracker};
+ghost use Rattle.replay.specs.Log.{logText};
+ghost use Rattle.replay.specs.Telling.{Tells};
+ghost use Rattle.tracker.specs.Tracker.{seamed};
+ghost use Rattle.tracker.specs.Cycle.{cycled};
+
+// ---- lines
+
+// A line and its newline.
+pub fn log(out: &mut [u8], at: usize, line: Line) -> usize
+    requires { ⌜ at + 76 ≤ length (now out) ⌝ }
+    ensures { λ r. ⌜ Put (now (out .entry)) at (logText (line ∷ [])) (now (out .exit)) r × (r ≤ at + 76) ⌝ }
+{
+    match lines::write_line(line, &mut out[at..]) {
+        Written::NoRoom => at,
+        Written::Bytes(n) => {
+            let end = at + n;
+            out[end] = 10;
+            end + 1
+        }
+    }
+}
+
+// ---- a session with one part anew
+
+fn with_scan(session: Session, scan: Scan) -> Session
+    ensures { λ r. ⌜ r ≡ withScan session scan ⌝ }
+{
+    let tracker = session.tracker;
+    let used = session.used;
+    Session {
+        scan,
+        tracker,
+        frames: session.frames,
+        cycles: session.cycles,
+        used,
+    }
+}
+
+// The scan after one frame more.
+fn with_frame(session: Session, scan: Scan) -> Session
+    ensures { λ r. ⌜ r ≡ withFrame session scan ⌝ }
+{
+    let tracker = session.tracker;
+    let used = session.used;
+    Session {
+        scan,
+        tracker,
+        frames: answers::next_long_count(session.frames),
+        cycles: session.cycles,
+        used,
+    }
+}
+
+fn with_tracker(session: Session, tracker: Tracker, cycles: u64) -> Session
+    ensures { λ r. ⌜ r ≡ withTracker session tracker cycles ⌝ }
+{
+    let scan = session.scan;
+    let used = session.used;
+    Session {
+        scan,
+        tracker,
+        frames: session.frames,
+        cycles,
+        used,
+    }
+}
+
+// ---- events of the scan and of the tracker
+
+// A far push, a rearm or a discard has changed the scan, or was refused.
+fn changed(event: u32, session: Session, change: Changed, out: &mut [u8]) -> Told
+    requires { ⌜ 76 ≤ length (now out) ⌝ }
+    ensures { λ r. ⌜ Tells (changeLines event (change .answer)) (withScan session (change .scan)) false (now (out .entry)) 0 r (now (out .exit)) ⌝ }
+{
+    let scan = change.scan;
+    let next = with_scan(session, scan);
+    let answer = change.answer;
+    match answer {
+        Change::Refused(number) => {
+            let at = log(out, 0, Line::Refused(event, number));
+            Told { session: next, at, ends: false }
+        }
+        Change::Done => Told { session: next, at: 0, ends: false },
+    }
+}
+
+fn cycle(event: u32, session: Session, alignment: Samples, outcome: Outcome, out: &mut [u8]) -> Told
+    requires { ⌜ 76 ≤ length (now out) ⌝ }
+    ensures { λ r. ⌜ Tells (cycleLine event (session .cycles) (cycled (session .tracker) alignment outcome .verdict) ∷ []) (withTracker session (cycled (session .tracker) alignment outcome .tracker) (cyclesAfter (session .cycles) (cycled (session .tracker) alignment outcome .verdict))) false (now (out .entry)) 0 r (now (out .exit)) ⌝ }
+{
+    let before = session.tracker;
+    let c = before.on_cycle(alignment, outcome);
+    let tracker = c.tracker;
+    let verdict = c.verdict;
+    let at = log(out, 0, words::cycle_line(event, session.cycles, verdict));
+    let next = with_tracker(session, tracker, words::cycles_after(session.cycles, verdict));
+    Told { session: next, at, ends: false }
+}
+
+fn discontinuity(event: u32, session: Session, out: &mut [u8]) -> Told
+    requires { ⌜ 76 ≤ length (now out) ⌝ }
+    ensures { λ r. ⌜ Tells (answerLines event (seamed (session .tracker) .answer)) (withTracker session (seamed (session .tracker) .tracker) (session .cycles)) false (now (out .entry)) 0 r (now (out .exit)) ⌝ }
+{
+    let before = session.tracker;
+    let c = before.on_discontinuity();
+    let tracker = c.tracker;
+    let answer = c.answer;
+    let next = with_tracker(session, tracker, session.cycles);
+    match answer {
+        Answer::Refused(number) => {
+            let at = log(out, 0, Line::Refused(event, number));
+            Told { session: next, at, ends: false }
+        }
+        Answer::Done => Told { session: next, at: 0, ends: false },
+    }
+}
