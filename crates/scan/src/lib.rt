@@ -1,5 +1,104 @@
-// The coarse scan: every public call but scoring. No public call has a `requires`; what each of them does is defined in crate coarse.
+// The coarse scan: every public call but scoring. No call has a `requires`; what each of them does is defined in crate coarse.
+// The modules below have the functions behind the calls; `reports` has the calls that only report.
 pub mod rules; // refusals 1, 2 and 3, which every call begins with
 pub mod parts; // the parts of a state, as new and exchanged
-pub mod reports; // what a scan reports
+pub mod level; // a block's level
+pub mod restart; // a making and a reset
+pub mod far; // a push of far samples
+pub mod near; // one near sample
 pub mod clearing; // rearm and discard_near
+pub mod reports; // what a scan reports
+
+use coarse::Changed;
+use coarse::Near;
+use coarse::Scan;
+use coarse::Taking;
+use coarse::Took;
+ghost use mathlib.Core.Path.{_≡_};
+ghost use Rattle.coarse.specs.Bins.{fullSlack};
+ghost use Rattle.coarse.specs.Calls.{made, wasReset, pushedFar, pushedNear, rearmed, discarded};
+
+// How many bins the far envelope keeps beyond the window.
+const SLACK: u32 = 4000;
+
+// A new scan. Refused, it is the one for rate 8,000 and ceiling 1.
+pub fn new(rate: u32, ceiling: u32, envelope: &mut [f32], lag_sums: &mut [f64]) -> Changed
+    ensures changed { λ r. ⌜ r ≡ made fullSlack rate ceiling (now (envelope .entry)) (now («lag_sums» .entry)) .changed ⌝ }
+    ensures envelope { λ r. ⌜ now (envelope .exit) ≡ made fullSlack rate ceiling (now (envelope .entry)) (now («lag_sums» .entry)) .envelope ⌝ }
+    ensures sums { λ r. ⌜ now («lag_sums» .exit) ≡ made fullSlack rate ceiling (now (envelope .entry)) (now («lag_sums» .entry)) .lagSums ⌝ }
+{
+    restart::make(SLACK, rate, ceiling, envelope, lag_sums)
+}
+
+// The scan as it was made.
+pub fn reset(scan: Scan, envelope: &mut [f32], lag_sums: &mut [f64]) -> Changed
+    ensures changed { λ r. ⌜ r ≡ wasReset fullSlack scan (now (envelope .entry)) (now («lag_sums» .entry)) .changed ⌝ }
+    ensures envelope { λ r. ⌜ now (envelope .exit) ≡ wasReset fullSlack scan (now (envelope .entry)) (now («lag_sums» .entry)) .envelope ⌝ }
+    ensures sums { λ r. ⌜ now («lag_sums» .exit) ≡ wasReset fullSlack scan (now (envelope .entry)) (now («lag_sums» .entry)) .lagSums ⌝ }
+{
+    restart::reset(SLACK, scan, envelope, lag_sums)
+}
+
+// Far samples, in played order.
+pub fn push_far(scan: Scan, envelope: &mut [f32], samples: &[f32]) -> Changed
+    ensures changed { λ r. ⌜ r ≡ pushedFar fullSlack scan (now (envelope .entry)) (now (samples .entry)) .changed ⌝ }
+    ensures envelope { λ r. ⌜ now (envelope .exit) ≡ pushedFar fullSlack scan (now (envelope .entry)) (now (samples .entry)) .envelope ⌝ }
+{
+    far::push(SLACK, scan, envelope, samples)
+}
+
+// One near sample with its index.
+pub fn push_near(scan: Scan, levels: &mut [f32], sample: f32, index: u64) -> Took
+    ensures took { λ r. ⌜ r ≡ pushedNear scan (now (levels .entry)) sample index .took ⌝ }
+    ensures levels { λ r. ⌜ now (levels .exit) ≡ pushedNear scan (now (levels .entry)) sample index .levels ⌝ }
+{
+    let n = near::refusal(scan, levels, sample, index);
+    if n != 0 {
+        return Took {
+            scan,
+            answer: Taking::Refused(n),
+        };
+    }
+    let g = scan.geometry;
+    let near = scan.near;
+    let verdict = scan.verdict;
+    if rules::finished(verdict) {
+        return Took {
+            scan,
+            answer: Taking::Ignored,
+        };
+    }
+    if near::dropped(g, near, index) {
+        return Took {
+            scan,
+            answer: Taking::Dropped,
+        };
+    }
+    let gathered = near::gather(g, near, levels, sample, index);
+    near::taken(scan, gathered)
+}
+
+// The near frame and the verdict as new; the far side stays, its partial block too.
+pub fn rearm(scan: Scan, lag_sums: &mut [f64]) -> Changed
+    ensures changed { λ r. ⌜ r ≡ rearmed scan (now («lag_sums» .entry)) .changed ⌝ }
+    ensures sums { λ r. ⌜ now («lag_sums» .exit) ≡ rearmed scan (now («lag_sums» .entry)) .lagSums ⌝ }
+{
+    let cleared = parts::with_near_verdict(scan, parts::new_near(), parts::new_verdict());
+    clearing::clear(scan, lag_sums, cleared)
+}
+
+// The near frame but for its first bin, and the frames banked; the frames counted, the last peak, the region and the flags stay.
+pub fn discard_near(scan: Scan, lag_sums: &mut [f64]) -> Changed
+    ensures changed { λ r. ⌜ r ≡ discarded scan (now («lag_sums» .entry)) .changed ⌝ }
+    ensures sums { λ r. ⌜ now («lag_sums» .exit) ≡ discarded scan (now («lag_sums» .entry)) .lagSums ⌝ }
+{
+    let near = Near {
+        len: 0,
+        sum: 0.0,
+        count: 0,
+        first: scan.near.first,
+    };
+    let verdict = scan.verdict;
+    let cleared = parts::with_near_verdict(scan, near, parts::unbank(verdict));
+    clearing::clear(scan, lag_sums, cleared)
+}

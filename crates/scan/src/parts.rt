@@ -8,8 +8,8 @@ use coarse::Near;
 use coarse::Scan;
 use coarse::Verdict;
 ghost use mathlib.Core.Path.{_≡_};
-ghost use Rattle.coarse.specs.State.{newFar, newNear, newVerdict};
-ghost use Rattle.coarse.specs.Calls.{withFar, withNear, withNearVerdict, changedBy};
+ghost use Rattle.coarse.specs.State.{newFar, newNear, newVerdict, newScan};
+ghost use Rattle.coarse.specs.Calls.{withFar, withNear, withNearVerdict, unbanked, changedBy};
 ghost use Rattle.coarse.specs.declared.Change.the-variants as Change;
 
 pub fn new_far() -> Far
@@ -56,6 +56,27 @@ pub fn as_new(geometry: Geometry) -> Scan
         far: new_far(),
         near: new_near(),
         verdict: new_verdict(),
+    }
+}
+
+pub fn new_scan(rate: u32, ceiling: u32) -> Scan
+    ensures { λ r. ⌜ r ≡ newScan rate ceiling ⌝ }
+{
+    as_new(crate::rules::geometry_of(rate, ceiling))
+}
+
+// No frame is banked any more.
+pub fn unbank(v: Verdict) -> Verdict
+    ensures { λ r. ⌜ r ≡ unbanked v ⌝ }
+{
+    let found = v.found;
+    Verdict {
+        banked: 0,
+        frames: v.frames,
+        last: v.last,
+        found,
+        beyond: v.beyond,
+        exhausted: v.exhausted,
     }
 }
 

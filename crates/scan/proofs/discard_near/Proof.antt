@@ -1,9 +1,9 @@
--- `scan::clearing::discard_near` meets its contract.
+-- `scan::discard_near` meets its contract.
 use Rattle.coarse.specs.Calls.{discarded}
 use lib.Ieee.{ofBits}
 use borrow.Author.Needs.{needs}
-use Rattle.scan.proofs.clearing.discard_near.Statement.{statement}
-use Rattle.scan.proofs.clearing.discard_near.Tie as tie
+use Rattle.scan.proofs.discard_near.Statement.{statement}
+use Rattle.scan.proofs.discard_near.Tie as tie
 
 unbank-requires : tie.Need-unbank-requires
 unbank-requires c κs = search needs

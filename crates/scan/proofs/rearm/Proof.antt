@@ -1,8 +1,8 @@
--- `scan::clearing::rearm` meets its contract.
+-- `scan::rearm` meets its contract.
 use Rattle.coarse.specs.Calls.{rearmed}
 use borrow.Author.Needs.{needs}
-use Rattle.scan.proofs.clearing.rearm.Statement.{statement}
-use Rattle.scan.proofs.clearing.rearm.Tie as tie
+use Rattle.scan.proofs.rearm.Statement.{statement}
+use Rattle.scan.proofs.rearm.Tie as tie
 
 new-near-requires : tie.Need-new-near-requires
 new-near-requires c κs = search needs
