@@ -1,18 +1,16 @@
 use borrow.Author.Needs.{needs}
+use mathlib.Core.Path.{refl, sym, ap, _∙_}
+use lib.Ieee.{binary32, toBits}
+use Rattle.floats.proofs.Floats.{is-nan, no-nan, nan-bits32}
 use Rattle.replay.proofs.words.bits32.Statement.{statement}
 use Rattle.replay.proofs.words.bits32.Tie as tie
-use Rattle.replay.proofs.words.bits32.Reads as reads
-use Rattle.replay.proofs.words.bits32.Lts as lts
 
--- src/words.rt:16:9
 returns : tie.Need-returns
-returns c = ?
+returns c = nan-bits32 0x7fc0_0000 refl ∙ ap (toBits binary32) (sym (is-nan (c .before .args .x) (c .if1 .taken)))
 
--- src/words.rt:18:5
 float-to-bits-result : tie.Need-float-to-bits-result
-float-to-bits-result c = ?
+float-to-bits-result c = no-nan (c .before .args .x) (c .if1 .left)
 
--- src/words.rt:12:1
 returns-2 : tie.Need-returns-2
 returns-2 c = search needs
 

@@ -1,18 +1,16 @@
 use borrow.Author.Needs.{needs}
+use mathlib.Core.Path.{refl, sym, ap, _∙_}
+use lib.Ieee.{binary64, toBits}
+use Rattle.floats.proofs.Floats.{is-nan, no-nan, nan-bits64}
 use Rattle.replay.proofs.words.bits64.Statement.{statement}
 use Rattle.replay.proofs.words.bits64.Tie as tie
-use Rattle.replay.proofs.words.bits64.Reads as reads
-use Rattle.replay.proofs.words.bits64.Lts as lts
 
--- src/words.rt:25:9
 returns : tie.Need-returns
-returns c = ?
+returns c = nan-bits64 0x7ff8_0000_0000_0000 refl ∙ ap (toBits binary64) (sym (is-nan (c .before .args .x) (c .if1 .taken)))
 
--- src/words.rt:27:5
 float-to-bits-result : tie.Need-float-to-bits-result
-float-to-bits-result c = ?
+float-to-bits-result c = no-nan (c .before .args .x) (c .if1 .left)
 
--- src/words.rt:21:1
 returns-2 : tie.Need-returns-2
 returns-2 c = search needs
 

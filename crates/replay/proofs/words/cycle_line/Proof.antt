@@ -1,44 +1,40 @@
 use borrow.Author.Needs.{needs}
+use mathlib.Core.Path.{ap}
+use Rattle.lines.specs.declared.Line.the-variants as line
+use Rattle.lines.specs.declared.Verdict.the-variants as loggedVerdict
+use Rattle.replay.specs.Words.{cycleLine}
 use Rattle.replay.proofs.words.cycle_line.Statement.{statement}
 use Rattle.replay.proofs.words.cycle_line.Tie as tie
-use Rattle.replay.proofs.words.cycle_line.Reads as reads
-use Rattle.replay.proofs.words.cycle_line.Lts as lts
-use Rattle.replay.proofs.words.trigger_of.Reads as trigger-of-reads
 
--- src/words.rt:61:26
 enum-known-verdict : tie.Need-enum-known-verdict
 enum-known-verdict c = search needs
 
--- src/words.rt:62:45
 enum-told : tie.Need-enum-told
 enum-told c = search needs
 
--- src/words.rt:63:23
 enum-known-verdict-2 : tie.Need-enum-known-verdict-2
 enum-known-verdict-2 c = search needs
 
--- src/words.rt:64:28
 enum-known-verdict-3 : tie.Need-enum-known-verdict-3
 enum-known-verdict-3 c = search needs
 
--- src/words.rt:64:85
 trigger-of-requires : tie.Need-trigger-of-requires
 trigger-of-requires c κs = search needs
 
--- src/words.rt:57:1
 returns : tie.Need-returns
-returns c = ?
+unfolding cycleLine
+returns c = rw (c .before .verdict .given .1)
 
--- src/words.rt:57:1
 returns-2 : tie.Need-returns-2
-returns-2 c = ?
+unfolding cycleLine
+returns-2 c = rw (c .enum-told .given .1)
 
--- src/words.rt:57:1
 returns-3 : tie.Need-returns-3
-returns-3 c = ?
+unfolding cycleLine
+returns-3 c = rw (c .before .verdict2 .given .1)
 
--- src/words.rt:57:1
 returns-4 : tie.Need-returns-4
+unfolding cycleLine
 returns-4 c = ?
 
 pub cycle-line-spec : {M : Type 1} → statement M

@@ -1,40 +1,35 @@
 use borrow.Author.Needs.{needs}
+use Rattle.replay.specs.Words.{triggerOf}
 use Rattle.replay.proofs.words.trigger_of.Statement.{statement}
 use Rattle.replay.proofs.words.trigger_of.Tie as tie
-use Rattle.replay.proofs.words.trigger_of.Reads as reads
-use Rattle.replay.proofs.words.trigger_of.Lts as lts
 
--- src/words.rt:50:26
 enum-told : tie.Need-enum-told
 enum-told c = search needs
 
--- src/words.rt:51:26
 enum-told-2 : tie.Need-enum-told-2
 enum-told-2 c = search needs
 
--- src/words.rt:52:26
 enum-told-3 : tie.Need-enum-told-3
 enum-told-3 c = search needs
 
--- src/words.rt:53:26
 enum-told-4 : tie.Need-enum-told-4
 enum-told-4 c = search needs
 
--- src/words.rt:46:1
 returns : tie.Need-returns
-returns c = ?
+unfolding triggerOf
+returns c = rw (c .enum-told .given .1)
 
--- src/words.rt:46:1
 returns-2 : tie.Need-returns-2
-returns-2 c = ?
+unfolding triggerOf
+returns-2 c = rw (c .enum-told2 .given .1)
 
--- src/words.rt:46:1
 returns-3 : tie.Need-returns-3
-returns-3 c = ?
+unfolding triggerOf
+returns-3 c = rw (c .enum-told3 .given .1)
 
--- src/words.rt:46:1
 returns-4 : tie.Need-returns-4
-returns-4 c = ?
+unfolding triggerOf
+returns-4 c = rw (c .enum-told4 .given .1)
 
 pub trigger-of-spec : {M : Type 1} → statement M
 trigger-of-spec =
