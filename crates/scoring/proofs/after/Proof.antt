@@ -1,0 +1,15 @@
+-- `scoring::after` meets its contract.
+use Prim.Native.Nat.{_-_}
+use borrow.Author.Needs.{needs}
+use borrow.Author.Needs.{needs}
+use Rattle.scoring.proofs.after.Statement.{statement}
+use Rattle.scoring.proofs.after.Tie as tie
+
+with-near-verdict-requires : tie.Need-with-near-verdict-requires
+with-near-verdict-requires c κs = search needs
+
+returns : tie.Need-returns
+returns c = rw (c .with-near-verdict .ensures)
+
+pub after-spec : {M : Type 1} → statement M
+after-spec = tie.close (tie.spec with-near-verdict-requires returns)
