@@ -1,5 +1,5 @@
 -- Document 01, "Replay": what one event does to a session and to the lent buffers, and the lines that it logs.
-use Prim.Native.Nat.{ℕ, _+_}
+use Prim.Native.Nat.{ℕ}
 use mathlib.Core.Bool.{Bool, true, false}
 use mathlib.Core.List.{List, [], _∷_, _++_}
 use lib.Ieee.{Float}
@@ -95,12 +95,12 @@ samplePlayed e s b x index =
 abbrev pub after : Play → Play → Play
 after earlier p = record { lines = earlier .lines ++ p .lines; session = p .session; buffers = p .buffers; ends = p .ends }
 
--- number = first index
+-- Number = first index. An index of 2^62 or more is judged the same whatever it is, so that it may stay at the largest number of 64 bits.
 unfoldable pub nearPlayed : ℕ → Session → Buffers → List Float → ℕ → Play
 nearPlayed e s b [] index = goesOn [] s b
 nearPlayed e s b (x ∷ xs) index =
     let p = samplePlayed e s b x index in
-    pick (p .ends) p (after p (nearPlayed e (p .session) (p .buffers) xs (index + 1)))
+    pick (p .ends) p (after p (nearPlayed e (p .session) (p .buffers) xs (nextLongCount index)))
 
 -- the refusal drops the rest of that event, and the log goes on
 abbrev pub logGoesOn : Play → Play

@@ -1,9 +1,8 @@
 -- What the steps inside a call leave. No promise names these.
-use Prim.Native.Nat.{ℕ, _+_, _≤_}
+use Prim.Native.Nat.{ℕ}
 use mathlib.Core.Path.{_≡_}
 use mathlib.Core.Bool.{Bool}
 use mathlib.Core.List.{List}
-use lib.Ieee.{Float}
 use Rattle.coarse.specs.State.{Buffers}
 use Rattle.lines.specs.Steps.{Put}
 use Rattle.lines.specs.declared.Line.{Line}
@@ -11,11 +10,6 @@ use Rattle.replay.specs.Log.{logText}
 use Rattle.replay.specs.Events.{Play}
 use Rattle.replay.specs.declared.Session.{Session}
 use Rattle.replay.specs.declared.Told.{Told}
-
--- the seven lent lists as one
-abbrev pub lent : List Float → List Float → List Float → List Float → List Float → List Float → List Float → Buffers
-lent envelope levels window prefix squares scores lagSums =
-    record { envelope = envelope; levels = levels; window = window; prefix = prefix; squares = squares; scores = scores; lagSums = lagSums }
 
 -- the lines stand in `after` from `at` on, and what was told is this session and this end
 pub record Tells (lines : List Line) (session : Session) (ends : Bool) (before : List ℕ) (at : ℕ) (told : Told) (after : List ℕ) : Type 0 where

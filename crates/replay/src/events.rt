@@ -1,10 +1,13 @@
 // What the events do. Each function writes the lines that it causes into out, from at on, where there is room for them.
-use coarse::Change;
-use coarse::Changed;
-use coarse::Scan;
 use crate::Session;
 use crate::Told;
 use crate::words;
+use coarse::Change;
+use coarse::Changed;
+use coarse::Scan;
+use coarse::Scored;
+use coarse::Scoring;
+use coarse::Taking;
 use lines::Line;
 use lines::Written;
 use tracker::Answer;
@@ -18,9 +21,11 @@ ghost use Prim.Native.Nat.{_+_, _≤_};
 ghost use lib.ListN.{length};
 ghost use Rattle.lines.specs.Steps.{Put};
 ghost use Rattle.replay.specs.Words.{changeLines, answerLines, cycleLine, cyclesAfter};
-ghost use Rattle.replay.specs.Events.{withScan, withFrame, withTracker};
+ghost use Rattle.coarse.specs.State.{Buffers};
+ghost use Rattle.scoring.specs.Observing.{lent};
+ghost use Rattle.replay.specs.Events.{withScan, withFrame, withTracker, afterScore, scorePlayed, samplePlayed, nearPlayed};
 ghost use Rattle.replay.specs.Log.{logText};
-ghost use Rattle.replay.specs.Telling.{Tells};
+ghost use Rattle.replay.specs.Telling.{Tells, Plays};
 ghost use Rattle.tracker.specs.Tracker.{seamed};
 ghost use Rattle.tracker.specs.Cycle.{cycled};
 
@@ -99,9 +104,17 @@ fn changed(event: u32, session: Session, change: Changed, out: &mut [u8]) -> Tol
     match answer {
         Change::Refused(number) => {
             let at = log(out, 0, Line::Refused(event, number));
-            Told { session: next, at, ends: false }
+            Told {
+                session: next,
+                at,
+                ends: false,
+            }
         }
-        Change::Done => Told { session: next, at: 0, ends: false },
+        Change::Done => Told {
+            session: next,
+            at: 0,
+            ends: false,
+        },
     }
 }
 
@@ -114,8 +127,16 @@ fn cycle(event: u32, session: Session, alignment: Samples, outcome: Outcome, out
     let tracker = c.tracker;
     let verdict = c.verdict;
     let at = log(out, 0, words::cycle_line(event, session.cycles, verdict));
-    let next = with_tracker(session, tracker, words::cycles_after(session.cycles, verdict));
-    Told { session: next, at, ends: false }
+    let next = with_tracker(
+        session,
+        tracker,
+        words::cycles_after(session.cycles, verdict),
+    );
+    Told {
+        session: next,
+        at,
+        ends: false,
+    }
 }
 
 fn discontinuity(event: u32, session: Session, out: &mut [u8]) -> Told
@@ -130,8 +151,145 @@ fn discontinuity(event: u32, session: Session, out: &mut [u8]) -> Told
     match answer {
         Answer::Refused(number) => {
             let at = log(out, 0, Line::Refused(event, number));
-            Told { session: next, at, ends: false }
+            Told {
+                session: next,
+                at,
+                ends: false,
+            }
         }
-        Answer::Done => Told { session: next, at: 0, ends: false },
+        Answer::Done => Told {
+            session: next,
+            at: 0,
+            ends: false,
+        },
+    }
+}
+
+// ---- near samples, one by one
+
+// A frame was scored, or its scoring was refused.
+fn scored(event: u32, session: Session, score: Scored, out: &mut [u8], at: usize) -> Told
+    requires { ⌜ at + 76 ≤ length (now out) ⌝ }
+    ensures plays { λ r. ⌜ ((b : Buffers) → Plays (afterScore event session (score .scan) b (score .answer)) (now (out .entry)) at r b (now (out .exit))) ⌝ }
+    ensures room { λ r. ⌜ r .at ≤ at + 76 ⌝ }
+{
+    let scan = score.scan;
+    let answer = score.answer;
+    match answer {
+        Scoring::Refused(number) => {
+            let next = with_scan(session, scan);
+            let end = log(out, at, Line::Refused(event, number));
+            Told {
+                session: next,
+                at: end,
+                ends: true,
+            }
+        }
+        Scoring::Frame(frame) => {
+            let next = with_frame(session, scan);
+            let word = words::word_of(frame);
+            let end = log(out, at, Line::Frame(session.frames, word));
+            Told {
+                session: next,
+                at: end,
+                ends: false,
+            }
+        }
+    }
+}
+
+fn score(
+    event: u32,
+    session: Session,
+    envelope: &[f32],
+    levels: &[f32],
+    window: &mut [f32],
+    prefix: &mut [f64],
+    squares: &mut [f64],
+    scores: &mut [f64],
+    lag_sums: &mut [f64],
+    out: &mut [u8],
+    at: usize,
+) -> Told
+    requires { ⌜ at + 76 ≤ length (now out) ⌝ }
+    ensures plays { λ r. ⌜ Plays (scorePlayed event session (lent (now (envelope .entry)) (now (levels .entry)) (now (window .entry)) (now (prefix .entry)) (now (squares .entry)) (now (scores .entry)) (now («lag_sums» .entry)))) (now (out .entry)) at r (lent (now (envelope .entry)) (now (levels .entry)) (now (window .exit)) (now (prefix .exit)) (now (squares .exit)) (now (scores .exit)) (now («lag_sums» .exit))) (now (out .exit)) ⌝ }
+    ensures room { λ r. ⌜ r .at ≤ at + 76 ⌝ }
+{
+    let before = session.scan;
+    let seen = scoring::observe(
+        before,
+        envelope,
+        levels,
+        window,
+        prefix,
+        squares,
+        scores,
+        lag_sums,
+    );
+    scored(event, session, seen, out, at)
+}
+
+// One near sample; where it fills a frame, the frame is scored at once.
+fn sample(
+    event: u32,
+    session: Session,
+    x: f32,
+    index: u64,
+    envelope: &[f32],
+    levels: &mut [f32],
+    window: &mut [f32],
+    prefix: &mut [f64],
+    squares: &mut [f64],
+    scores: &mut [f64],
+    lag_sums: &mut [f64],
+    out: &mut [u8],
+    at: usize,
+) -> Told
+    requires { ⌜ at + 76 ≤ length (now out) ⌝ }
+    ensures plays { λ r. ⌜ Plays (samplePlayed event session (lent (now (envelope .entry)) (now (levels .entry)) (now (window .entry)) (now (prefix .entry)) (now (squares .entry)) (now (scores .entry)) (now («lag_sums» .entry))) x index) (now (out .entry)) at r (lent (now (envelope .entry)) (now (levels .exit)) (now (window .exit)) (now (prefix .exit)) (now (squares .exit)) (now (scores .exit)) (now («lag_sums» .exit))) (now (out .exit)) ⌝ }
+    ensures room { λ r. ⌜ r .at ≤ at + 76 ⌝ }
+{
+    let before = session.scan;
+    let took = scan::push_near(before, levels, x, index);
+    let after = took.scan;
+    let next = with_scan(session, after);
+    let answer = took.answer;
+    match answer {
+        Taking::Refused(number) => {
+            let end = log(out, at, Line::Refused(event, number));
+            Told {
+                session: next,
+                at: end,
+                ends: true,
+            }
+        }
+        Taking::Ignored => Told {
+            session: next,
+            at,
+            ends: false,
+        },
+        Taking::Dropped => Told {
+            session: next,
+            at,
+            ends: false,
+        },
+        Taking::Taken => Told {
+            session: next,
+            at,
+            ends: false,
+        },
+        Taking::Full => score(
+            event,
+            next,
+            envelope,
+            levels,
+            window,
+            prefix,
+            squares,
+            scores,
+            lag_sums,
+            out,
+            at,
+        ),
     }
 }

@@ -61,7 +61,10 @@ pub fn cycle_line(event: u32, cycle: u64, verdict: Verdict) -> Line
         Verdict::Refused(number) => Line::Refused(event, number),
         Verdict::Hold => Line::Cycle(cycle, lines::Verdict::Hold),
         Verdict::Move(alignment) => Line::Cycle(cycle, lines::Verdict::Move(alignment.0)),
-        Verdict::Reacquire(trigger) => Line::Cycle(cycle, lines::Verdict::Reacquire(trigger_of(trigger))),
+        Verdict::Reacquire(trigger) => Line::Cycle(
+            cycle,
+            lines::Verdict::Reacquire(trigger_of(trigger)),
+        ),
     }
 }
 

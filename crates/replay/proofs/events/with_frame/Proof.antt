@@ -6,7 +6,7 @@ next-long-count-requires : tie.Need-next-long-count-requires
 next-long-count-requires c κs = search needs
 
 returns : tie.Need-returns
-returns c = ?
+returns c = rw (c .next-long-count .ensures)
 
 pub with-frame-spec : {M : Type 1} → statement M
 with-frame-spec = tie.close (tie.spec next-long-count-requires returns)

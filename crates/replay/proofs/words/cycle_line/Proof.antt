@@ -2,6 +2,7 @@ use borrow.Author.Needs.{needs}
 use mathlib.Core.Path.{ap}
 use Rattle.lines.specs.declared.Line.the-variants as line
 use Rattle.lines.specs.declared.Verdict.the-variants as loggedVerdict
+use Rattle.lines.specs.declared.Trigger.{Trigger}
 use Rattle.replay.specs.Words.{cycleLine}
 use Rattle.replay.proofs.words.cycle_line.Statement.{statement}
 use Rattle.replay.proofs.words.cycle_line.Tie as tie
@@ -35,7 +36,7 @@ returns-3 c = rw (c .before .verdict2 .given .1)
 
 returns-4 : tie.Need-returns-4
 unfolding cycleLine
-returns-4 c = ?
+returns-4 c = rw (c .before .before .verdict3 .given .1) (ap (λ (t : Trigger). line.Cycle (c .before .before .before .before .args .cycle) (loggedVerdict.Reacquire t)) (c .trigger-of .ensures))
 
 pub cycle-line-spec : {M : Type 1} → statement M
 cycle-line-spec =

@@ -1,6 +1,7 @@
 use borrow.Author.Needs.{needs}
 use mathlib.Core.Path.{ap}
 use Rattle.lines.specs.declared.Word.the-variants as word
+use Prim.Native.Nat.{ℕ}
 use Rattle.replay.specs.Words.{wordOf}
 use Rattle.replay.proofs.words.word_of.Statement.{statement}
 use Rattle.replay.proofs.words.word_of.Tie as tie
@@ -72,7 +73,7 @@ returns-8 c = rw (c .enum-told7 .given .1)
 
 returns-9 : tie.Need-returns-9
 unfolding wordOf
-returns-9 c = ?
+returns-9 c = rw (c .before .before .frame2 .given .1) (ap (λ (x : ℕ). word.Region (c .before .before .frame2 .given .0 .0 .delay .0) x) (c .bits64 .ensures))
 
 pub word-of-spec : {M : Type 1} → statement M
 word-of-spec =
