@@ -10,6 +10,7 @@ use coarse::Scoring;
 use coarse::Taking;
 use lines::Line;
 use lines::Written;
+use recording::Event;
 use tracker::Answer;
 use tracker::Outcome;
 use tracker::Tracker;
@@ -17,13 +18,13 @@ use units::Samples;
 ghost use mathlib.Core.Path.{_≡_};
 ghost use mathlib.Core.Bool.{true, false};
 ghost use mathlib.Core.List.{[], _∷_};
-ghost use Prim.Native.Nat.{_+_, _≤_};
+ghost use Prim.Native.Nat.{_+_, _*_, _≤_};
 ghost use lib.ListN.{length};
 ghost use Rattle.lines.specs.Steps.{Put};
 ghost use Rattle.replay.specs.Words.{changeLines, answerLines, cycleLine, cyclesAfter};
 ghost use Rattle.coarse.specs.State.{Buffers};
 ghost use Rattle.scoring.specs.Observing.{lent};
-ghost use Rattle.replay.specs.Events.{withScan, withFrame, withTracker, afterScore, scorePlayed, samplePlayed, nearPlayed};
+ghost use Rattle.replay.specs.Events.{withScan, withFrame, withTracker, afterScore, scorePlayed, samplePlayed, nearPlayed, eventPlayed};
 ghost use Rattle.replay.specs.Log.{logText};
 ghost use Rattle.replay.specs.Telling.{Tells, Plays};
 ghost use Rattle.tracker.specs.Tracker.{seamed};
@@ -292,4 +293,40 @@ fn sample(
             at,
         ),
     }
+}
+
+// The samples of an event, until one is refused.
+fn near(
+    event: u32,
+    session: Session,
+    samples: &[f32],
+    first: u64,
+    envelope: &[f32],
+    levels: &mut [f32],
+    window: &mut [f32],
+    prefix: &mut [f64],
+    squares: &mut [f64],
+    scores: &mut [f64],
+    lag_sums: &mut [f64],
+    out: &mut [u8],
+) -> Told
+    requires { ⌜ 76 * length (now samples) ≤ length (now out) ⌝ }
+    ensures { λ r. ⌜ Plays (nearPlayed event session (lent (now (envelope .entry)) (now (levels .entry)) (now (window .entry)) (now (prefix .entry)) (now (squares .entry)) (now (scores .entry)) (now («lag_sums» .entry))) (now (samples .entry)) first) (now (out .entry)) 0 r (lent (now (envelope .entry)) (now (levels .exit)) (now (window .exit)) (now (prefix .exit)) (now (squares .exit)) (now (scores .exit)) (now («lag_sums» .exit))) (now (out .exit)) ⌝ }
+{
+    let mut told = Told { session, at: 0, ends: false };
+    let mut index = first;
+    let mut i = 0;
+    while i < samples.len() {
+        let before = told.session;
+        let at = told.at;
+        let x = samples[i];
+        told = sample(event, before, x, index, envelope, levels, window, prefix, squares, scores, lag_sums, out, at);
+        let ends = told.ends;
+        if ends {
+            return told;
+        }
+        index = answers::next_long_count(index);
+        i += 1;
+    }
+    told
 }
