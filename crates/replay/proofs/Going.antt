@@ -50,7 +50,6 @@ done whole e s b xs index start out told none k f u =
 
 module _ (whole : Play) (e : ℕ) (s : Session) (b : Buffers) (x : Float) (xs : List Float) (index : ℕ) (start out next : List ℕ) (at : ℕ) (told : Told) (left : Buffers)
     (u : Underway whole (nearPlayed e s b (x ∷ xs) index) start out at) (p : Plays (samplePlayed e s b x index) out at told left next) where
-
   -- a sample was refused
   pub stopped : told .ends ≡ true → Plays whole start 0 told left next
   unfolding nearPlayed
@@ -71,7 +70,7 @@ module _ (whole : Play) (e : ℕ) (s : Session) (b : Buffers) (x : Float) (xs : 
       let r = nearPlayed e (q .session) (q .buffers) xs (nextLongCount index) in
       let same : whole ≡ behind (u .lines) (after q r) = u .same ∙ ap (behind (u .lines)) (pick-false _ _ _ (sym (p .tells .closes) ∙ h)) in
       let flat : behind (u .lines) (after q r) ≡ behind (u .lines ++ q .lines) r =
-          ap (λ (ls : List Line). record { lines = ls; session = r .session; buffers = r .buffers; ends = r .ends }) (sym (append-assoc (u .lines) (q .lines) (r .lines))) in
+      ap (λ (ls : List Line). record { lines = ls; session = r .session; buffers = r .buffers; ends = r .ends }) (sym (append-assoc (u .lines) (q .lines) (r .lines))) in
       rw (p .tells .keeps, p .leaves)
       (record { lines = u .lines ++ q .lines; same = same ∙ flat; put = rw (text-append (u .lines) (q .lines)) (then (u .put) (p .tells .text)) })
 
@@ -88,7 +87,6 @@ pub record Kept (l₀ w₀ p₀ q₀ c₀ t₀ l w p q c t : List Float) (o₀ o
 -- the same two, for the sample at an index of the event's samples
 module _ (whole : Play) (e : ℕ) (s : Session) (b : Buffers) (samples : List Float) (i : ℕ) (d : Float) (index : ℕ) (start out next : List ℕ) (at : ℕ) (told : Told) (left : Buffers)
     (h : i < length samples) (u : Underway whole (nearPlayed e s b (drop i samples) index) start out at) (p : Plays (samplePlayed e s b (getD samples i d) index) out at told left next) where
-
   here : Underway whole (nearPlayed e s b (getD samples i d ∷ drop (suc i) samples) index) start out at
   here = rw (drop-cons samples i d h) at u
 

@@ -10,7 +10,12 @@ use coarse::Scoring;
 use coarse::Taking;
 use lines::Line;
 use lines::Written;
+use recording::Admission;
+use recording::Entry;
 use recording::Event;
+use recording::Header;
+use recording::Lengths;
+use recording::Used;
 use tracker::Answer;
 use tracker::Outcome;
 use tracker::Tracker;
@@ -21,10 +26,11 @@ ghost use mathlib.Core.List.{[], _∷_};
 ghost use Prim.Native.Nat.{_+_, _*_, _≤_};
 ghost use lib.ListN.{length};
 ghost use Rattle.lines.specs.Steps.{Put};
+ghost use Rattle.lines.specs.declared.Line.the-variants as line;
 ghost use Rattle.replay.specs.Words.{changeLines, answerLines, cycleLine, cyclesAfter};
 ghost use Rattle.coarse.specs.State.{Buffers};
 ghost use Rattle.scoring.specs.Observing.{lent};
-ghost use Rattle.replay.specs.Events.{withScan, withFrame, withTracker, afterScore, scorePlayed, samplePlayed, nearPlayed, eventPlayed};
+ghost use Rattle.replay.specs.Events.{withScan, withFrame, withTracker, afterScore, scorePlayed, samplePlayed, nearPlayed, eventPlayed, withUsed, stepped};
 ghost use Rattle.replay.specs.Log.{logText};
 ghost use Rattle.replay.specs.Telling.{Tells, Plays};
 ghost use Rattle.tracker.specs.Tracker.{seamed};
@@ -313,14 +319,32 @@ fn near(
     requires { ⌜ 76 * length (now samples) ≤ length (now out) ⌝ }
     ensures { λ r. ⌜ Plays (nearPlayed event session (lent (now (envelope .entry)) (now (levels .entry)) (now (window .entry)) (now (prefix .entry)) (now (squares .entry)) (now (scores .entry)) (now («lag_sums» .entry))) (now (samples .entry)) first) (now (out .entry)) 0 r (lent (now (envelope .entry)) (now (levels .exit)) (now (window .exit)) (now (prefix .exit)) (now (squares .exit)) (now (scores .exit)) (now («lag_sums» .exit))) (now (out .exit)) ⌝ }
 {
-    let mut told = Told { session, at: 0, ends: false };
+    let mut told = Told {
+        session,
+        at: 0,
+        ends: false,
+    };
     let mut index = first;
     let mut i = 0;
     while i < samples.len() {
         let before = told.session;
         let at = told.at;
         let x = samples[i];
-        told = sample(event, before, x, index, envelope, levels, window, prefix, squares, scores, lag_sums, out, at);
+        told = sample(
+            event,
+            before,
+            x,
+            index,
+            envelope,
+            levels,
+            window,
+            prefix,
+            squares,
+            scores,
+            lag_sums,
+            out,
+            at,
+        );
         let ends = told.ends;
         if ends {
             return told;
@@ -329,4 +353,112 @@ fn near(
         i += 1;
     }
     told
+}
+
+// ---- any event
+
+fn with_used(session: Session, used: Used) -> Session
+    ensures { λ r. ⌜ r ≡ withUsed session used ⌝ }
+{
+    let scan = session.scan;
+    let tracker = session.tracker;
+    Session {
+        scan,
+        tracker,
+        frames: session.frames,
+        cycles: session.cycles,
+        used,
+    }
+}
+
+// A refusal drops the rest of the event, and the log goes on.
+fn goes_on(told: Told) -> Told
+    ensures { λ r. ⌜ r ≡ record { session = told .session; at = told .at; ends = false } ⌝ }
+{
+    let session = told.session;
+    Told {
+        session,
+        at: told.at,
+        ends: false,
+    }
+}
+
+fn play(
+    number: u32,
+    session: Session,
+    event: Event,
+    samples: &[f32],
+    envelope: &mut [f32],
+    levels: &mut [f32],
+    window: &mut [f32],
+    prefix: &mut [f64],
+    squares: &mut [f64],
+    scores: &mut [f64],
+    lag_sums: &mut [f64],
+    out: &mut [u8],
+) -> Told
+    requires { ⌜ (76 ≤ length (now out)) × (76 * length (now samples) ≤ length (now out)) ⌝ }
+    ensures { λ r. ⌜ Plays (eventPlayed number session (lent (now (envelope .entry)) (now (levels .entry)) (now (window .entry)) (now (prefix .entry)) (now (squares .entry)) (now (scores .entry)) (now («lag_sums» .entry))) event (now (samples .entry))) (now (out .entry)) 0 r (lent (now (envelope .exit)) (now (levels .exit)) (now (window .exit)) (now (prefix .exit)) (now (squares .exit)) (now (scores .exit)) (now («lag_sums» .exit))) (now (out .exit)) ⌝ }
+{
+    let before = session.scan;
+    match event {
+        Event::Far { count: _ } => {
+            let change = scan::push_far(before, envelope, samples);
+            changed(number, session, change, out)
+        }
+        Event::Near { count: _, first } => {
+            let told = near(
+                number,
+                session,
+                samples,
+                first,
+                envelope,
+                levels,
+                window,
+                prefix,
+                squares,
+                scores,
+                lag_sums,
+                out,
+            );
+            goes_on(told)
+        }
+        Event::Rearm => {
+            let change = scan::rearm(before, lag_sums);
+            changed(number, session, change, out)
+        }
+        Event::DiscardNear => {
+            let change = scan::discard_near(before, lag_sums);
+            changed(number, session, change, out)
+        }
+        Event::Unconfident => cycle(number, session, Samples(0), Outcome::Unconfident, out),
+        Event::Interior { alignment, delay } => {
+            let outcome = Outcome::Candidate {
+                delay: Samples(delay),
+                interior: true,
+            };
+            cycle(number, session, Samples(alignment as u64), outcome, out)
+        }
+        Event::Edge { alignment, delay } => {
+            let outcome = Outcome::Candidate {
+                delay: Samples(delay),
+                interior: false,
+            };
+            cycle(number, session, Samples(alignment as u64), outcome, out)
+        }
+        Event::Discontinuity => discontinuity(number, session, out),
+    }
+}
+
+// A bad event ends the log.
+fn bad(number: u32, session: Session, out: &mut [u8]) -> Told
+    requires { ⌜ 76 ≤ length (now out) ⌝ }
+    ensures { λ r. ⌜ Tells (line.BadEvent number ∷ []) session true (now (out .entry)) 0 r (now (out .exit)) ⌝ }
+{
+    let at = log(out, 0, Line::BadEvent(number));
+    Told {
+        session,
+        at,
+        ends: true,
+    }
 }

@@ -1,3 +1,4 @@
+-- `closing` meets its contract: by the two totals.
 use borrow.Author.Needs.{needs}
 use Rattle.answers.proofs.Cases.{cases}
 use Rattle.replay.specs.Log.{closing}

@@ -1,3 +1,4 @@
+-- `events::changed` meets its contract: a refusal logs its line, any other answer nothing.
 use borrow.Author.Needs.{needs}
 use mathlib.Core.Path.{refl}
 use Rattle.replay.specs.Words.{changeLines}

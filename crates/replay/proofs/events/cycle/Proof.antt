@@ -1,3 +1,4 @@
+-- `events::cycle` meets its contract: what the tracker answers is told by one line.
 use borrow.Author.Needs.{needs}
 use Prim.Native.Nat.{ℕ}
 use mathlib.Core.Path.{refl, ap, _∙_}

@@ -1,3 +1,4 @@
+-- `events::log` meets its contract: the part from `at` on has room for any line.
 use borrow.Author.Needs.{needs}
 use native.Mathlib.Omega.{arith}
 use Rattle.replay.proofs.Logging.{never-full, short, as-long-as, logged}

@@ -1,3 +1,4 @@
+-- `events::near` meets its contract. The invariant: what was logged and what is left to play make the whole; each sample logs at most one line.
 use borrow.Author.Needs.{needs}
 use Prim.Native.Nat.{_*_, _-_, _≤_}
 use mathlib.Core.Path.{_≡_, refl, _∙_}
@@ -9,10 +10,6 @@ use Rattle.replay.specs.Events.{nearPlayed}
 use Rattle.replay.proofs.Going.{Kept, Underway, begins, done, halted, again}
 use Rattle.replay.proofs.events.near.Statement.{statement}
 use Rattle.replay.proofs.events.near.Tie as tie
-use Rattle.replay.proofs.events.near.Reads as reads
-use Rattle.replay.proofs.events.near.Lts as lts
-use Rattle.answers.proofs.next_long_count.Reads as next-long-count-reads
-use Rattle.replay.proofs.events.sample.Reads as sample-reads
 
 abbrev Inv-loop : tie.InvT-loop
 Inv-loop event samples first envelope levels₀ window₀ prefix₀ squares₀ scores₀ lag-sums₀ out₀ told₀ index₀ i₀ levels window prefix squares scores lag-sums out told index i =
@@ -62,7 +59,7 @@ same-length-7 : tie.Need-same-length-7 Inv-loop μ-loop
 same-length-7 c = c .before .before .before .before .before .before .before .before .before .before .before .before .before .before .before .sample .kept .1 .1 .1 .1 .1 .1 .1 .1 .1 .1 .1 .0 ∙ c .before .before .before .before .before .before .before .before .before .before .before .before .before .before .before .before .before .before .before .before .before .before .before .before .before .before .loop .inv .3 .out
 
 returns : tie.Need-returns Inv-loop μ-loop
-returns c = 
+returns c =
     halted _ _ _ _ (c .before .before .before .before .before .before .before .before .before .before .before .before .before .before .before .before .before .before .before .before .before .before .before .before .before .before .before .before .before .before .before .before .before .before .before .before .args .samples .now) (c .before .before .before .before .before .before .before .before .before .before .before .before .before .before .before .before .before .before .before .before .before .before .before .before .before .before .loop .i) _ _ _ _ _ _ _ _ (c .before .before .before .before .before .before .before .before .before .before .before .before .before .before .before .before .before .before .before .before .before .before .before .before .before .loop-test .taken) (c .before .before .before .before .before .before .before .before .before .before .before .before .before .before .before .before .before .before .before .before .before .before .before .before .before .before .loop .inv .4) (c .before .before .before .before .before .before .before .before .before .before .before .before .before .before .before .sample .ensures .0) (c .if1 .taken)
 
 next-long-count-requires : tie.Need-next-long-count-requires Inv-loop μ-loop
@@ -75,12 +72,13 @@ loop-less : tie.Need-loop-less Inv-loop μ-loop
 loop-less c = search needs
 
 loop-again : tie.Need-loop-again Inv-loop μ-loop
-loop-again c = 
-    (omega (arith, c .before .before .before .before .before .before .before .before .before .before .before .before .before .before .before .before .before .before .before .before .before .before .before .before .before .before .loop-test .taken),
-    c .before .if1 .left,
-    omega (arith, c .before .before .before .before .before .before .before .before .before .before .before .before .before .before .before .before .sample .ensures .1, c .before .before .before .before .before .before .before .before .before .before .before .before .before .before .before .before .before .before .before .before .before .before .before .before .before .before .before .loop .inv .2),
-    record { levels = c .before .before .before .before .before .before .before .before .before .before .before .before .before .before .before .before .sample .kept .1 .1 .1 .1 .1 .0 ∙ c .before .before .before .before .before .before .before .before .before .before .before .before .before .before .before .before .before .before .before .before .before .before .before .before .before .before .before .loop .inv .3 .levels; window = c .before .before .before .before .before .before .before .before .before .before .before .before .before .before .before .before .sample .kept .1 .1 .1 .1 .1 .1 .0 ∙ c .before .before .before .before .before .before .before .before .before .before .before .before .before .before .before .before .before .before .before .before .before .before .before .before .before .before .before .loop .inv .3 .window; prefix = c .before .before .before .before .before .before .before .before .before .before .before .before .before .before .before .before .sample .kept .1 .1 .1 .1 .1 .1 .1 .0 ∙ c .before .before .before .before .before .before .before .before .before .before .before .before .before .before .before .before .before .before .before .before .before .before .before .before .before .before .before .loop .inv .3 .prefix; squares = c .before .before .before .before .before .before .before .before .before .before .before .before .before .before .before .before .sample .kept .1 .1 .1 .1 .1 .1 .1 .1 .0 ∙ c .before .before .before .before .before .before .before .before .before .before .before .before .before .before .before .before .before .before .before .before .before .before .before .before .before .before .before .loop .inv .3 .squares; scores = c .before .before .before .before .before .before .before .before .before .before .before .before .before .before .before .before .sample .kept .1 .1 .1 .1 .1 .1 .1 .1 .1 .0 ∙ c .before .before .before .before .before .before .before .before .before .before .before .before .before .before .before .before .before .before .before .before .before .before .before .before .before .before .before .loop .inv .3 .scores; sums = c .before .before .before .before .before .before .before .before .before .before .before .before .before .before .before .before .sample .kept .1 .1 .1 .1 .1 .1 .1 .1 .1 .1 .0 ∙ c .before .before .before .before .before .before .before .before .before .before .before .before .before .before .before .before .before .before .before .before .before .before .before .before .before .before .before .loop .inv .3 .sums; out = c .before .before .before .before .before .before .before .before .before .before .before .before .before .before .before .before .sample .kept .1 .1 .1 .1 .1 .1 .1 .1 .1 .1 .1 .0 ∙ c .before .before .before .before .before .before .before .before .before .before .before .before .before .before .before .before .before .before .before .before .before .before .before .before .before .before .before .loop .inv .3 .out },
-    again _ _ _ _ (c .before .before .before .before .before .before .before .before .before .before .before .before .before .before .before .before .before .before .before .before .before .before .before .before .before .before .before .before .before .before .before .before .before .before .before .before .before .args .samples .now) (c .before .before .before .before .before .before .before .before .before .before .before .before .before .before .before .before .before .before .before .before .before .before .before .before .before .before .before .loop .i) _ _ _ _ _ _ _ _ (c .before .before .before .before .before .before .before .before .before .before .before .before .before .before .before .before .before .before .before .before .before .before .before .before .before .before .loop-test .taken) (c .before .before .before .before .before .before .before .before .before .before .before .before .before .before .before .before .before .before .before .before .before .before .before .before .before .before .before .loop .inv .4) (c .before .before .before .before .before .before .before .before .before .before .before .before .before .before .before .before .sample .ensures .0) _ (c .next-long-count .ensures) (c .before .if1 .left))
+loop-again c = (
+  omega (arith, c .before .before .before .before .before .before .before .before .before .before .before .before .before .before .before .before .before .before .before .before .before .before .before .before .before .before .loop-test .taken),
+  c .before .if1 .left,
+  omega (arith, c .before .before .before .before .before .before .before .before .before .before .before .before .before .before .before .before .sample .ensures .1, c .before .before .before .before .before .before .before .before .before .before .before .before .before .before .before .before .before .before .before .before .before .before .before .before .before .before .before .loop .inv .2),
+  record { levels = c .before .before .before .before .before .before .before .before .before .before .before .before .before .before .before .before .sample .kept .1 .1 .1 .1 .1 .0 ∙ c .before .before .before .before .before .before .before .before .before .before .before .before .before .before .before .before .before .before .before .before .before .before .before .before .before .before .before .loop .inv .3 .levels; window = c .before .before .before .before .before .before .before .before .before .before .before .before .before .before .before .before .sample .kept .1 .1 .1 .1 .1 .1 .0 ∙ c .before .before .before .before .before .before .before .before .before .before .before .before .before .before .before .before .before .before .before .before .before .before .before .before .before .before .before .loop .inv .3 .window; prefix = c .before .before .before .before .before .before .before .before .before .before .before .before .before .before .before .before .sample .kept .1 .1 .1 .1 .1 .1 .1 .0 ∙ c .before .before .before .before .before .before .before .before .before .before .before .before .before .before .before .before .before .before .before .before .before .before .before .before .before .before .before .loop .inv .3 .prefix; squares = c .before .before .before .before .before .before .before .before .before .before .before .before .before .before .before .before .sample .kept .1 .1 .1 .1 .1 .1 .1 .1 .0 ∙ c .before .before .before .before .before .before .before .before .before .before .before .before .before .before .before .before .before .before .before .before .before .before .before .before .before .before .before .loop .inv .3 .squares; scores = c .before .before .before .before .before .before .before .before .before .before .before .before .before .before .before .before .sample .kept .1 .1 .1 .1 .1 .1 .1 .1 .1 .0 ∙ c .before .before .before .before .before .before .before .before .before .before .before .before .before .before .before .before .before .before .before .before .before .before .before .before .before .before .before .loop .inv .3 .scores; sums = c .before .before .before .before .before .before .before .before .before .before .before .before .before .before .before .before .sample .kept .1 .1 .1 .1 .1 .1 .1 .1 .1 .1 .0 ∙ c .before .before .before .before .before .before .before .before .before .before .before .before .before .before .before .before .before .before .before .before .before .before .before .before .before .before .before .loop .inv .3 .sums; out = c .before .before .before .before .before .before .before .before .before .before .before .before .before .before .before .before .sample .kept .1 .1 .1 .1 .1 .1 .1 .1 .1 .1 .1 .0 ∙ c .before .before .before .before .before .before .before .before .before .before .before .before .before .before .before .before .before .before .before .before .before .before .before .before .before .before .before .loop .inv .3 .out },
+  again _ _ _ _ (c .before .before .before .before .before .before .before .before .before .before .before .before .before .before .before .before .before .before .before .before .before .before .before .before .before .before .before .before .before .before .before .before .before .before .before .before .before .args .samples .now) (c .before .before .before .before .before .before .before .before .before .before .before .before .before .before .before .before .before .before .before .before .before .before .before .before .before .before .before .loop .i) _ _ _ _ _ _ _ _ (c .before .before .before .before .before .before .before .before .before .before .before .before .before .before .before .before .before .before .before .before .before .before .before .before .before .before .loop-test .taken) (c .before .before .before .before .before .before .before .before .before .before .before .before .before .before .before .before .before .before .before .before .before .before .before .before .before .before .before .loop .inv .4) (c .before .before .before .before .before .before .before .before .before .before .before .before .before .before .before .before .sample .ensures .0) _ (c .next-long-count .ensures) (c .before .if1 .left),
+)
 
 same-length-8 : tie.Need-same-length-8 Inv-loop μ-loop
 same-length-8 c = search needs
@@ -104,7 +102,7 @@ same-length-14 : tie.Need-same-length-14 Inv-loop μ-loop
 same-length-14 c = search needs
 
 returns-2 : tie.Need-returns-2 Inv-loop μ-loop
-returns-2 c = 
+returns-2 c =
     done _ _ _ _ _ _ _ _ (c .before .loop .told) (drop-of-length-le (c .before .before .before .before .before .before .before .before .before .before .before .args .samples .now) (c .loop-test .left)) refl (c .before .loop .inv .1) (c .before .loop .inv .4)
 
 pub near-spec : {M : Type 1} → statement M

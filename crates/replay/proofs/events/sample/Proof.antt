@@ -1,3 +1,4 @@
+-- `events::sample` meets its contract: by the answer of `push_near`; a full frame is scored.
 use borrow.Author.Needs.{needs}
 use mathlib.Core.Path.{refl}
 use native.Mathlib.Omega.{arith}

@@ -1,3 +1,4 @@
+-- `events::score` meets its contract: what `observe` leaves is told.
 use borrow.Author.Needs.{needs}
 use native.Mathlib.Omega.{arith}
 use Rattle.replay.specs.Events.{scorePlayed}

@@ -1,3 +1,4 @@
+-- `events::scored` meets its contract: by the answer.
 use borrow.Author.Needs.{needs}
 use mathlib.Core.Path.{refl}
 use Rattle.replay.proofs.events.scored.Statement.{statement}

@@ -1,3 +1,4 @@
+-- `events::with_frame` meets its contract.
 use borrow.Author.Needs.{needs}
 use Rattle.replay.proofs.events.with_frame.Statement.{statement}
 use Rattle.replay.proofs.events.with_frame.Tie as tie

@@ -1,3 +1,4 @@
+-- `words::cycle_line` meets its contract: arm by arm.
 use borrow.Author.Needs.{needs}
 use mathlib.Core.Path.{ap}
 use Rattle.lines.specs.declared.Line.the-variants as line

@@ -1,3 +1,4 @@
+-- `words::cycles_after` meets its contract: arm by arm.
 use borrow.Author.Needs.{needs}
 use Rattle.replay.specs.Words.{cyclesAfter}
 use Rattle.replay.proofs.words.cycles_after.Statement.{statement}

@@ -1,3 +1,4 @@
+-- `words::trigger_of` meets its contract: arm by arm.
 use borrow.Author.Needs.{needs}
 use Rattle.replay.specs.Words.{triggerOf}
 use Rattle.replay.proofs.words.trigger_of.Statement.{statement}

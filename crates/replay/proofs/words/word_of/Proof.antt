@@ -1,3 +1,4 @@
+-- `words::word_of` meets its contract: arm by arm.
 use borrow.Author.Needs.{needs}
 use mathlib.Core.Path.{ap}
 use Rattle.lines.specs.declared.Word.the-variants as word
