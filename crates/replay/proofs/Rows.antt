@@ -1,0 +1,31 @@
+-- Document 01's whole log, and the smallest bad ones, by computation.
+use Prim.Native.Nat.{ℕ}
+use mathlib.Core.Path.{_≡_, refl}
+use mathlib.Core.List.{List, [], _∷_, _++_}
+use Rattle.answers.specs.Pick.{pick}
+use Rattle.coarse.specs.Bins.{geometryOf}
+use Rattle.tracker.specs.Tracker.{bandsOf, sameBands, stateRefusal, fresh}
+use Rattle.tracker.specs.Cycle.{unconfidentCycle, edgeCycle, jumped, outsideBands, confirmed, landing, contradicts, escalated, outsideCycle, interiorCycle, judged, cycleRefusal, cycled}
+use Rattle.lines.specs.declared.Line.the-variants.{Replay, Cycle, End, BadHeader, BadEvent, BadTotals}
+use Rattle.lines.specs.declared.Verdict.the-variants.{Hold, Move}
+use Rattle.recording.specs.Bytes.{bytes, numberAt}
+use Rattle.recording.specs.Recording.{opened, eventOf, eventAt}
+use Rattle.recording.specs.Samples.{samplesIn, samplesOf, admitted}
+use Rattle.replay.specs.Words.{cycleLine, cyclesAfter, triggerOf}
+use Rattle.replay.specs.Events.{eventPlayed, cyclePlayed, stepped}
+use Rattle.replay.specs.Log.{newSession, closing, linesFrom, logOf}
+
+-- a header with these rate, ceiling, event count and totals
+abbrev pub header : ℕ → ℕ → ℕ → ℕ → ℕ → List ℕ
+header rate ceiling count far near = bytes 4 rate ++ bytes 4 ceiling ++ bytes 4 count ++ bytes 4 24 ++ bytes 4 far ++ bytes 4 near
+
+abbrev pub event : ℕ → ℕ → ℕ → List ℕ
+event kind count number = bytes 4 kind ++ bytes 4 count ++ bytes 8 number
+
+-- rate 48,000, ceiling 500, alignment 4,800; interior 4,700, 4,500, 4,480, then unconfident
+abbrev pub whole : List ℕ
+whole = header 48000 500 4 0 0 ++ event 6 4800 4700 ++ event 6 4800 4500 ++ event 6 4800 4480 ++ event 5 0 0
+
+pub whole-log : logOf whole [] [] ≡ Replay 48000 500 ∷ Cycle 0 Hold ∷ Cycle 1 Hold ∷ Cycle 2 (Move 4096) ∷ Cycle 3 Hold ∷ End 0 4 ∷ []
+unfolding pick bandsOf sameBands stateRefusal fresh unconfidentCycle edgeCycle jumped outsideBands confirmed landing contradicts escalated outsideCycle interiorCycle judged cycleRefusal cycled numberAt opened eventOf eventAt samplesIn samplesOf admitted cycleLine cyclesAfter triggerOf eventPlayed cyclePlayed stepped newSession closing linesFrom logOf
+whole-log = refl

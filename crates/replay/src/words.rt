@@ -1,0 +1,81 @@
+// How the answers of scan and tracker read in a log.
+use coarse::Frame;
+use lines::Line;
+use lines::Word;
+use tracker::Trigger;
+use tracker::Verdict;
+ghost use mathlib.Core.Path.{_≡_};
+ghost use lib.Ieee.{binary32, binary64, toBits};
+ghost use Rattle.replay.specs.Words.{wordOf, triggerOf, cycleLine, cyclesAfter};
+
+// A NaN has no bits in the logic; its pattern is written out.
+fn bits32(x: f32) -> u32
+    ensures { λ r. ⌜ r ≡ toBits binary32 x ⌝ }
+{
+    if x != x {
+        return 0x7fc0_0000;
+    }
+    f32::to_bits(x)
+}
+
+fn bits64(x: f64) -> u64
+    ensures { λ r. ⌜ r ≡ toBits binary64 x ⌝ }
+{
+    if x != x {
+        return 0x7ff8_0000_0000_0000;
+    }
+    f64::to_bits(x)
+}
+
+pub fn word_of(frame: Frame) -> Word
+    ensures { λ r. ⌜ r ≡ wordOf frame ⌝ }
+{
+    match frame {
+        Frame::Uncovered => Word::Uncovered,
+        Frame::Ahead => Word::Ahead,
+        Frame::Quiet => Word::Quiet,
+        Frame::Flat => Word::Flat,
+        Frame::Banked(peak) => Word::Banked(bits32(peak)),
+        Frame::Weak => Word::Weak,
+        Frame::Ceiling => Word::Ceiling,
+        Frame::Crowded => Word::Crowded,
+        Frame::Region(region) => Word::Region(region.delay.0, bits64(region.correlation)),
+    }
+}
+
+fn trigger_of(trigger: Trigger) -> lines::Trigger
+    ensures { λ r. ⌜ r ≡ triggerOf trigger ⌝ }
+{
+    match trigger {
+        Trigger::Edge => lines::Trigger::Edge,
+        Trigger::Lost => lines::Trigger::Lost,
+        Trigger::Jump => lines::Trigger::Jump,
+        Trigger::Seam => lines::Trigger::Seam,
+    }
+}
+
+pub fn cycle_line(event: u32, cycle: u64, verdict: Verdict) -> Line
+    ensures { λ r. ⌜ r ≡ cycleLine event cycle verdict ⌝ }
+{
+    match verdict {
+        Verdict::Refused(number) => Line::Refused(event, number),
+        Verdict::Hold => Line::Cycle(cycle, lines::Verdict::Hold),
+        Verdict::Move(alignment) => Line::Cycle(cycle, lines::Verdict::Move(alignment.0)),
+        Verdict::Reacquire(trigger) => Line::Cycle(
+            cycle,
+            lines::Verdict::Reacquire(trigger_of(trigger)),
+        ),
+    }
+}
+
+// A refused cycle takes no number.
+pub fn cycles_after(cycle: u64, verdict: Verdict) -> u64
+    ensures { λ r. ⌜ r ≡ cyclesAfter cycle verdict ⌝ }
+{
+    match verdict {
+        Verdict::Refused(_) => cycle,
+        Verdict::Hold => answers::next_long_count(cycle),
+        Verdict::Move(_) => answers::next_long_count(cycle),
+        Verdict::Reacquire(_) => answers::next_long_count(cycle),
+    }
+}
