@@ -257,7 +257,7 @@ fn sample(
     ensures room { λ r. ⌜ r .at ≤ at + 76 ⌝ }
 {
     let before = session.scan;
-    let took = scan::push_near(before, levels, x, index);
+    let took = blocks::push_near(before, levels, x, index);
     let after = took.scan;
     let next = with_scan(session, after);
     let answer = took.answer;
@@ -403,7 +403,7 @@ fn play(
     let before = session.scan;
     match event {
         Event::Far { count: _ } => {
-            let change = scan::push_far(before, envelope, samples);
+            let change = blocks::push_far(before, envelope, samples);
             changed(number, session, change, out)
         }
         Event::Near { count: _, first } => {

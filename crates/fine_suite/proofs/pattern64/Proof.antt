@@ -1,5 +1,5 @@
 -- `fine_suite::pattern64` is safe: the float is no NaN.
-use Rattle.floats.proofs.Floats.{no-nan}
+use Rattle.floats.proofs.Readback.{no-nan}
 use borrow.Author.Needs.{needs}
 use Rattle.fine_suite.proofs.pattern64.Statement.{statement}
 use Rattle.fine_suite.proofs.pattern64.Tie as tie

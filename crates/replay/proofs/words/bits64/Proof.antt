@@ -1,13 +1,14 @@
 -- `words::bits64` meets its contract: a NaN's pattern is the one that the logic writes.
 use borrow.Author.Needs.{needs}
-use mathlib.Core.Path.{refl, sym, ap, _∙_}
+use mathlib.Core.Path.{sym, ap}
 use lib.Ieee.{binary64, toBits}
-use Rattle.floats.proofs.Floats.{is-nan, no-nan, nan-bits64}
+use Rattle.floats.proofs.Readback.{is-nan, no-nan}
 use Rattle.replay.proofs.words.bits64.Statement.{statement}
 use Rattle.replay.proofs.words.bits64.Tie as tie
 
 returns : tie.Need-returns
-returns c = nan-bits64 0x7ff8_0000_0000_0000 refl ∙ ap (toBits binary64) (sym (is-nan (c .before .args .x) (c .if1 .taken)))
+unfolding toBits
+returns c = ap (toBits binary64) (sym (is-nan (c .before .args .x) (c .if1 .taken)))
 
 float-to-bits-result : tie.Need-float-to-bits-result
 float-to-bits-result c = no-nan (c .before .args .x) (c .if1 .left)
