@@ -1,0 +1,2 @@
+-- What one word of a lent state says.
+pub mod Words

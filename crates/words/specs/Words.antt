@@ -1,0 +1,26 @@
+-- A host lends a state as a list of 64-bit words. A number is itself, a float its bit pattern, a flag 0 or 1.
+use Prim.Native.Nat.{ℕ, _^_}
+use mathlib.Core.Bool.{Bool}
+use mathlib.Core.List.{List}
+use lib.Dec.{ltb, eqb}
+use lib.ListN.{getD, length}
+use lib.Ieee.{Float, nan, Format, isNan, nanBits, toBits}
+use Rattle.answers.specs.Pick.{pick}
+
+abbrev pub word : List ℕ → ℕ → ℕ
+word ws i = getD ws i 0
+
+-- a number of 32 bits; a larger one loads as `other`
+unfoldable pub half : ℕ → ℕ → ℕ
+half w other = pick (ltb w (2 ^ 32)) w other
+
+-- the pattern of a float that goes where `old` stands: a NaN leaves a NaN's pattern that stands there
+unfoldable pub patternOf : Format → ℕ → Float → ℕ
+patternOf f old x = pick (isNan x) (pick (nanBits f old) old (toBits f nan)) (toBits f x)
+
+abbrev pub flagOf : Bool → ℕ
+flagOf b = pick b 1 0
+
+-- a list of words that has another length than its layout says is refused with 2 before anything is judged: there is nothing to read
+abbrev pub fits : ℕ → List ℕ → Bool
+fits n ws = eqb (length ws) n
