@@ -1,5 +1,4 @@
--- Of the definitions: rows of document 01 and scripted scans, by computation.
-pub mod Rows
+-- Of the definitions: scripted scans, by computation.
 pub mod Runs
 -- Laws of choices and lists, allowed settings, sizes of rounded results and of scores.
 pub mod Laws

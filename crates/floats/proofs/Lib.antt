@@ -2,10 +2,9 @@
 pub mod Compare
 pub mod Round
 pub mod Distance
--- For the crates above: the functions are what the relations say (Laws), a level is finite (Levels), rows of document 01, one result for each call.
+-- For the crates above: the functions are what the relations say (Laws), a level is finite (Levels), one result for each call.
 pub mod Laws
 pub mod Levels
-pub mod Rows
 pub mod Determined
 -- From the definition to patterns, and what the code's steps rest on.
 pub mod Pattern

@@ -4,4 +4,3 @@ pub mod Greatest
 pub mod Sound
 pub mod Numbers
 pub mod Determined
-pub mod Rows

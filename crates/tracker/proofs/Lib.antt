@@ -2,5 +2,4 @@
 pub mod Sound
 pub mod Laws
 pub mod Faithful
-pub mod Rows
 pub mod Determined
