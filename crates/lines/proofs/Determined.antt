@@ -15,17 +15,17 @@ use Rattle.lines.proofs.write_line.Reads as write-reads
 use Rattle.lines.proofs.read_line.Kinds as read-kinds
 use Rattle.lines.proofs.read_line.Reads as read-reads
 
-pub write-once : Determined 1 write-kinds.ps write-kinds.r write-reads.Post
-write-once κs a v w x y p q = once (p .0) (q .0)
+pub write-line-once : Determined 1 write-kinds.ps write-kinds.r write-reads.Post
+write-line-once κs a v w x y p q = once (p .0) (q .0)
 
-pub write-leaves-once : (κs : Lfts 1) (a : Dens κs write-kinds.ps) (v w : resT write-kinds.r κs .Denot) (x y : AtExit (endedOf 1 write-kinds.ps write-kinds.r) κs)
+pub write-line-leaves-once : (κs : Lfts 1) (a : Dens κs write-kinds.ps) (v w : resT write-kinds.r κs .Denot) (x y : AtExit (endedOf 1 write-kinds.ps write-kinds.r) κs)
     → write-reads.Post κs a v x → write-reads.Post κs a w y → now (x .1 .0) ≡ now (y .1 .0)
-write-leaves-once κs a v w x y p q = once (p .1) (q .1)
+write-line-leaves-once κs a v w x y p q = once (p .1) (q .1)
 
 read-one : (text : List ℕ) (v w : Read) → Reads text v → Reads text w → v ≡ w
 read-one text (Known l) w p q = sym (q .whole l (p .sound l refl))
 read-one text NotALogLine (Known m) p q = p .whole m (q .sound m refl)
 read-one text NotALogLine NotALogLine p q = refl
 
-pub read-once : Determined 1 read-kinds.ps read-kinds.r read-reads.Post
-read-once κs a v w x y p q = read-one _ v w p q
+pub read-line-once : Determined 1 read-kinds.ps read-kinds.r read-reads.Post
+read-line-once κs a v w x y p q = read-one _ v w p q

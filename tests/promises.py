@@ -1,0 +1,130 @@
+"""Holds docs/PROMISES.md and docs/DETERMINED.md to the tree, so that the papers cannot drift from it.
+
+Every name in the tables of PROMISES.md must be there: `crate: \\`name\\`` in that crate's specs, src, proofs or must-fail edits, `file:line: \\`name\\`` in that line.
+DETERMINED.md lists each public call with the theorems that its contract admits one result; `promises.py --write` writes it anew.
+"""
+
+import pathlib
+import re
+import sys
+
+ROOT = pathlib.Path(__file__).resolve().parent.parent
+CRATES = ROOT / "crates"
+# The crates whose calls a host makes.
+CALLED = ["floats", "ring", "tracker", "scan", "blocks", "scoring", "fine", "gates", "peaks", "lines", "recording", "replay", "trimolaveg"]
+# Public only for the crates above them; a host calls none of these. Each is pinned by an equation in its contract all the same.
+INNER = {
+    "scan": ["clearing.rt", "parts.rt", "restart.rt", "rules.rt"],
+    "blocks": ["far.rt", "level.rt", "near.rt"],
+    "scoring": ["refusal.rt", "window.rt"],
+    "fine": ["of", "with_frames"],
+    "replay": ["events.rt", "words.rt"],
+}
+
+
+def names_of(crate):
+    """Every identifier in a crate, and its must-fail edits and files."""
+    found = set()
+    for path in (CRATES / crate).rglob("*"):
+        if path.suffix in (".rt", ".antt"):
+            found.update(re.findall(r"[\w«»'-]+", path.read_text()))
+        if path.suffix in (".rt", ".antt", ".edit"):
+            found.add(path.stem)
+    return {name.strip("«»") for name in found}
+
+
+def known_crates():
+    lines = (ROOT / "crates.txt").read_text().splitlines()
+    return {line.split(":")[0] for line in lines if line and not line.startswith("#")}
+
+
+def missing_names(text, crates):
+    """What the tables of a paper name and the tree has not."""
+    names = {crate: names_of(crate) for crate in crates}
+    default = None
+    for number, line in enumerate(text.splitlines(), 1):
+        if not line.startswith("|"):
+            default = None
+            continue
+        for cell in line.strip("|").split(" | "):
+            crate = default
+            for token in re.finditer(r"(crates/[\w/.]+):(\d+): `([^`]+)`|\b(\w+)(?=: )|`([^`]+)`", cell):
+                path, at, there, word, name = token.groups()
+                if path:
+                    lines = (ROOT / path).read_text().splitlines() if (ROOT / path).exists() else []
+                    if int(at) > len(lines) or there not in lines[int(at) - 1]:
+                        yield f"PROMISES.md:{number}: `{there}` is not in line {at} of {path}"
+                elif word in crates:
+                    crate = word
+                    if "(" + word + ": " in cell and "Definition" in cell:
+                        default = word
+                elif name and crate:
+                    last = re.split(r"::| ", name)[-1]
+                    if last not in names[crate] and last.replace("_", "-") not in names[crate]:
+                        yield f"PROMISES.md:{number}: `{name}` is not in crate {crate}"
+
+
+def public_calls(crate):
+    """The public functions of a crate that ask nothing of their caller, in the order of the source."""
+    for path in sorted((CRATES / crate / "src").rglob("*.rt")):
+        text = path.read_text()
+        for match in re.finditer(r"pub (?:extern \"C\" )?fn (\w+)[^{]*?\n?\s*(?:\(|<)", text):
+            contract = text[match.start() : text.find("\n{", match.start())]
+            if "impl" in text and text.rfind("\nimpl ", 0, match.start()) > text.rfind("\n}", 0, match.start()):
+                contract = text[match.start() : text.find("\n    {", match.start())]
+            inner = INNER.get(crate, [])
+            if "requires" not in contract and path.name not in inner and match.group(1) not in inner:
+                yield match.group(1), path.relative_to(ROOT)
+
+
+def theorems(crate):
+    path = CRATES / crate / "proofs" / "Determined.antt"
+    if not path.exists():
+        return []
+    return re.findall(r"^pub ([\w-]+) :", path.read_text(), re.M)
+
+
+def determined(crates):
+    """The listing, and the calls that have no theorem."""
+    lines = [
+        "# Determinism, call by call",
+        "",
+        "Each public call's contract admits one result, and one list in each lent buffer. The theorems stand in `proofs/Determined.antt` of the call's crate; each is",
+        "about the contract alone, so it fails when somebody weakens an `ensures`. This page is written by `tests/promises.py --write` and held to the tree by `./test`.",
+        "",
+        "| Call | Theorems |",
+        "|---|---|",
+    ]
+    left_out = []
+    for crate in CALLED:
+        if crate not in crates:
+            continue
+        known = theorems(crate)
+        for call, path in public_calls(crate):
+            dashed = call.replace("_", "-")
+            mine = [t for t in known if t == dashed + "-once" or t.startswith(dashed + "-") and t.endswith("-once")]
+            if mine:
+                lines.append(f"| {crate}: `{call}` ({path.name}) | {', '.join('`' + t + '`' for t in mine)} |")
+            else:
+                left_out.append(f"{crate}: {call} ({path})")
+    return "\n".join(lines) + "\n", left_out
+
+
+def main():
+    crates = known_crates()
+    page, left_out = determined(crates)
+    listing = ROOT / "docs" / "DETERMINED.md"
+    if sys.argv[1:] == ["--write"]:
+        listing.write_text(page)
+    wrong = list(missing_names((ROOT / "docs" / "PROMISES.md").read_text(), crates))
+    wrong += [f"{call}: no theorem says that its contract admits one result" for call in left_out]
+    if listing.read_text() != page:
+        wrong.append("docs/DETERMINED.md is not what the tree gives: run tests/promises.py --write")
+    for line in wrong:
+        print(f"promises: {line}")
+    print(f"promises: {page.count(chr(10)) - 7} calls determined, {len(wrong)} things wrong")
+    sys.exit(1 if wrong else 0)
+
+
+if __name__ == "__main__":
+    main()
