@@ -1,4 +1,7 @@
-// What the programs that replay stored vectors share: little-endian numbers, and the tally that they write.
+// What the programs that replay stored vectors share: little-endian numbers, made-up samples, patterns of floats, and the tally that they write.
+pub mod patterns; // floats and their bits, and the hash of a buffer
+pub mod signals; // the samples of stored calls
+
 ghost use Prim.Native.Nat.{_+_, _≤_};
 ghost use lib.ListN.{length};
 use libc::STDOUT_FILENO;
