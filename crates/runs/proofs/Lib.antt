@@ -1,0 +1,3 @@
+pub mod Passing
+pub mod Going
+pub mod Determined
