@@ -1,4 +1,6 @@
+pub mod Numbers
 pub mod Pushing
 pub mod Holds
+pub mod Groups
 pub mod Calls
 pub mod Determined

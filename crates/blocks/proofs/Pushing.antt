@@ -1,22 +1,20 @@
 -- What a push that is not refused may count on, and its loop.
 use Prim.Native.Nat.{ℕ, _+_, _*_, _/_, _%_, _≤_, _<_}
-use mathlib.Core.Path.{_≡_, refl, sym, ap, _∙_, subst}
+use mathlib.Core.Path.{_≡_, refl, sym, ap, _∙_}
 use mathlib.Core.List.{List, _∷_}
 use mathlib.Core.Bool.{Bool, true, false, not}
 use native.Mathlib.Nat.{div-add-mod', mod-lt, add-mul, one-mul}
-use native.Mathlib.Numerals.{add-one}
 use native.Mathlib.Omega.{arith}
 use lib.Dec.{leb, ltb, eqb}
 use lib.ListN.{length, drop, set, length-set, drop-of-length-le}
-use lib.Seq.{drop-cons}
-use lib.Ieee.{Float, nan}
+use lib.Ieee.{Float}
 use lib.Ieee.Scale.{finite}
 use borrow.Author.Tests.{leb-true, ltb-true, eqb-true, eqb-false, eq-eqb, ne-eqb, not-true}
 use Rattle.answers.specs.Pick.{pick-true, pick-false, pick-case}
 use Rattle.answers.specs.Numbers.{limit}
 use Rattle.answers.proofs.Refusals.{passed, passed-both}
 use Rattle.floats.specs.Functions.{zero64}
-use Rattle.folds.specs.Sums.{allFinite, at}
+use Rattle.folds.specs.Sums.{allFinite}
 use Rattle.coarse.specs.Bins.{envelopeLen, nearLen}
 use Rattle.coarse.specs.State.{farRule, nearRule, keepsRules, geometryRule, finished, full, due, firstRefusals}
 use Rattle.coarse.specs.Blocks.{Heard, hear, hearAll, gather, dropped, firstBin, withSample, withBlock, levelOf, summed}
@@ -25,7 +23,7 @@ use Rattle.coarse.specs.declared.Geometry.{Geometry}
 use Rattle.coarse.specs.declared.Far.{Far}
 use Rattle.coarse.specs.declared.Near.{Near}
 use Rattle.coarse.specs.declared.Scan.{Scan}
-use Rattle.blocks.specs.Ready.{Placed, Hears, HearsAll, Gathers}
+use Rattle.blocks.specs.Ready.{Placed, HearsAll, Gathers}
 use Rattle.scan.proofs.Chains.{first, second}
 use Rattle.scan.proofs.Passing.{pass, fits}
 
@@ -142,7 +140,7 @@ module _ (g : Geometry) (n : Near) (l : List Float) (x : Float) (index : ℕ) wh
 abbrev pub Ready : ℕ → Geometry → Heard → List Float → Type 0
 Ready slack g h xs = HearsAll slack g (h .far) (h .envelope) xs
 
-hear-ready : (slack : ℕ) (g : Geometry) (h : Heard) (x : Float) (xs : List Float) → Ready slack g h (x ∷ xs) → Ready slack g (hear slack g h x) xs
+pub hear-ready : (slack : ℕ) (g : Geometry) (h : Heard) (x : Float) (xs : List Float) → Ready slack g h (x ∷ xs) → Ready slack g (hear slack g h x) xs
 unfolding hear allFinite
 hear-ready slack g h x xs r =
     let D = g .decimation in
@@ -174,26 +172,6 @@ pub record Going (slack : ℕ) (g : Geometry) (h₀ : Heard) (xs : List Float) (
 module _ (slack : ℕ) (g : Geometry) (h₀ : Heard) (xs : List Float) where
   pub starts : Ready slack g h₀ xs → Going slack g h₀ xs h₀ 0
   starts r = record { within = omega arith; left = r; whole = refl }
-
-  module _ (h : Heard) (i : ℕ) (more : i < length xs) (k : Going slack g h₀ xs h i) where
-    rest : Ready slack g h (at xs i ∷ drop (i + 1) xs)
-    rest = rw (add-one, ← drop-cons xs i nan) (k .left)
-
-    pub hears : Hears slack g (h .far) (h .envelope) (at xs i)
-    unfolding allFinite
-    hears =
-        let r = rest in
-        record { bounds = r .bounds; fit = r .fit; placed = r .placed; room = omega (arith, r .room); finite = first _ _ (r .finite) }
-
-    pub hears-next : (f : Far) (e : List Float) → f ≡ hear slack g h (at xs i) .far → e ≡ hear slack g h (at xs i) .envelope → Going slack g h₀ xs (record { far = f; envelope = e }) (i + 1)
-    unfolding hearAll
-    hears-next f e p q =
-        let same : _≡_ {A = Heard} (record { far = f; envelope = e }) (hear slack g h (at xs i)) = rw (p, q) in
-        record {
-          within = omega arith;
-          left = subst (λ (z : Heard). Ready slack g z (drop (i + 1) xs)) (sym same) (hear-ready slack g h (at xs i) (drop (i + 1) xs) rest);
-          whole = ap (λ (z : Heard). hearAll slack g z (drop (i + 1) xs)) same ∙ rw add-one (rw (drop-cons xs i nan) at (k .whole));
-        }
 
   pub ends : (h : Heard) (i : ℕ) → length xs ≤ i → Going slack g h₀ xs h i → h ≡ hearAll slack g h₀ xs
   unfolding hearAll

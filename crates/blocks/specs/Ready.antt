@@ -19,20 +19,43 @@ pub record Placed (g : Geometry) (f : Far) : Type 0 where
   pub accepted : f .accepted ≡ f .next * g .decimation + f .count
   pub partial : f .count < g .decimation
 
--- one far sample
-pub record Hears (slack : ℕ) (g : Geometry) (f : Far) (envelope : List Float) (x : Float) : Type 0 where
-  pub bounds : Bounds g
-  pub fit : length envelope ≡ envelopeLen slack g
-  pub placed : Placed g f
-  pub room : f .accepted < limit
-  pub finite : finite x ≡ true
-
 -- a push
 pub record HearsAll (slack : ℕ) (g : Geometry) (f : Far) (envelope xs : List Float) : Type 0 where
   pub bounds : Bounds g
   pub fit : length envelope ≡ envelopeLen slack g
   pub placed : Placed g f
   pub room : f .accepted + length xs ≤ limit
+  pub finite : allFinite xs ≡ true
+
+-- samples of one block
+pub record HearsPart (slack : ℕ) (g : Geometry) (f : Far) (envelope xs : List Float) : Type 0 where
+  pub all : HearsAll slack g f envelope xs
+  pub part : f .count + length xs ≤ g .decimation
+
+-- four whole blocks, from a block's start on
+pub record HearsFour (slack : ℕ) (g : Geometry) (f : Far) (envelope xs : List Float) : Type 0 where
+  pub all : HearsAll slack g f envelope xs
+  pub start : f .count ≡ 0
+  pub four : length xs ≡ 4 * g .decimation
+
+-- n samples are of one block, or are four whole ones
+abbrev pub Shaped : Geometry → Far → ℕ → Type 0
+Shaped g f n = g .decimation < f .count + n → (f .count ≡ 0) × (n ≡ 4 * g .decimation)
+
+pub record HearsRun (slack : ℕ) (g : Geometry) (f : Far) (envelope xs : List Float) : Type 0 where
+  pub all : HearsAll slack g f envelope xs
+  pub shaped : Shaped g f (length xs)
+
+-- a run of the samples left
+pub record RunLength (g : Geometry) (f : Far) (left n : ℕ) : Type 0 where
+  pub some : 0 < n
+  pub within : n ≤ left
+  pub shaped : Shaped g f n
+
+-- four blocks of d samples
+pub record FourBlocks (d : ℕ) (xs : List Float) : Type 0 where
+  pub small : d ≤ 192
+  pub four : length xs ≡ 4 * d
   pub finite : allFinite xs ≡ true
 
 -- one near sample that is not dropped

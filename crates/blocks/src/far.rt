@@ -1,5 +1,6 @@
 // A push of far samples. Lent: the far envelope.
 use crate::level;
+use crate::sums;
 use coarse::Changed;
 use coarse::Far;
 use coarse::Geometry;
@@ -7,10 +8,11 @@ use coarse::Scan;
 use scan::parts;
 use scan::rules;
 ghost use mathlib.Core.Path.{_≡_};
-ghost use Rattle.coarse.specs.Blocks;
-ghost use Rattle.coarse.specs.Blocks.{hearAll};
+ghost use Prim.Native.Nat.{_%_, _≤_, _<_};
+ghost use lib.ListN.{length, set};
+ghost use Rattle.coarse.specs.Blocks.{hearAll, levelOf};
 ghost use Rattle.coarse.specs.Calls.{farRefusal, pushedFar};
-ghost use Rattle.blocks.specs.Ready.{Hears, HearsAll};
+ghost use Rattle.blocks.specs.Ready.{HearsAll, HearsPart, HearsFour, HearsRun, RunLength};
 
 fn refusal(slack: u32, scan: Scan, envelope: &[f32], samples: &[f32]) -> u8
     ensures { λ r. ⌜ r ≡ farRefusal slack scan (now (envelope .entry)) (now (samples .entry)) ⌝ }
@@ -30,32 +32,94 @@ fn refusal(slack: u32, scan: Scan, envelope: &[f32], samples: &[f32]) -> u8
     )
 }
 
-// One sample: it completes the block, whose level is stored, or it goes on with it.
-fn hear(slack: u32, g: Geometry, f: Far, envelope: &mut [f32], sample: f32) -> Far
-    requires { ⌜ Hears slack g f (now envelope) sample ⌝ }
-    ensures far { λ r. ⌜ r ≡ Blocks.hear slack g (record { far = f; envelope = now (envelope .entry) }) sample .far ⌝ }
-    ensures envelope { λ r. ⌜ now (envelope .exit) ≡ Blocks.hear slack g (record { far = f; envelope = now (envelope .entry) }) sample .envelope ⌝ }
+// The level of a block, at the block's place.
+fn store(g: Geometry, envelope: &mut [f32], block: u64, sum: f64)
+    requires { ⌜ (g .decimation ≤ 192) × (0 < length (now envelope)) ⌝ }
+    ensures { λ _. ⌜ now (envelope .exit) ≡ set (now (envelope .entry)) (block % length (now (envelope .entry))) (levelOf g sum) ⌝ }
 {
-    let sum = level::summed(f.sum, sample);
-    let count = f.count + 1;
+    let slot = (block % envelope.len() as u64) as usize;
+    envelope[slot] = level::level_of(g, sum);
+}
+
+// Samples of one block: they complete it, and its level is stored, or they go on with it.
+fn hear_part(slack: u32, g: Geometry, f: Far, envelope: &mut [f32], samples: &[f32]) -> Far
+    requires { ⌜ HearsPart slack g f (now envelope) (now samples) ⌝ }
+    ensures far { λ r. ⌜ r ≡ hearAll slack g (record { far = f; envelope = now (envelope .entry) }) (now (samples .entry)) .far ⌝ }
+    ensures envelope { λ r. ⌜ now (envelope .exit) ≡ hearAll slack g (record { far = f; envelope = now (envelope .entry) }) (now (samples .entry)) .envelope ⌝ }
+{
+    let sum = sums::run(f.sum, samples);
+    let count = f.count + samples.len() as u64;
+    let accepted = f.accepted + samples.len() as u64;
     if count != g.decimation {
         return Far {
             next: f.next,
             sum,
             count,
-            accepted: f.accepted + 1,
+            accepted,
         };
     }
-    let slot = (f.next % envelope.len() as u64) as usize;
-    envelope[slot] = level::level_of(g, sum);
+    let block = f.next;
+    let next = block + 1;
+    store(g, envelope, block, sum);
     Far {
-        next: f.next + 1,
+        next,
         sum: 0.0,
         count: 0,
-        accepted: f.accepted + 1,
+        accepted,
     }
 }
 
+// Four whole blocks.
+fn hear_four(slack: u32, g: Geometry, f: Far, envelope: &mut [f32], samples: &[f32]) -> Far
+    requires { ⌜ HearsFour slack g f (now envelope) (now samples) ⌝ }
+    ensures far { λ r. ⌜ r ≡ hearAll slack g (record { far = f; envelope = now (envelope .entry) }) (now (samples .entry)) .far ⌝ }
+    ensures envelope { λ r. ⌜ now (envelope .exit) ≡ hearAll slack g (record { far = f; envelope = now (envelope .entry) }) (now (samples .entry)) .envelope ⌝ }
+{
+    let sums = sums::four(f.sum, samples, g.decimation as usize);
+    let second = f.next + 1;
+    let third = second + 1;
+    let fourth = third + 1;
+    store(g, envelope, f.next, sums.first);
+    store(g, envelope, second, sums.second);
+    store(g, envelope, third, sums.third);
+    store(g, envelope, fourth, sums.fourth);
+    Far {
+        next: fourth + 1,
+        sum: 0.0,
+        count: 0,
+        accepted: f.accepted + samples.len() as u64,
+    }
+}
+
+fn hear_run(slack: u32, g: Geometry, f: Far, envelope: &mut [f32], samples: &[f32]) -> Far
+    requires { ⌜ HearsRun slack g f (now envelope) (now samples) ⌝ }
+    ensures far { λ r. ⌜ r ≡ hearAll slack g (record { far = f; envelope = now (envelope .entry) }) (now (samples .entry)) .far ⌝ }
+    ensures envelope { λ r. ⌜ now (envelope .exit) ≡ hearAll slack g (record { far = f; envelope = now (envelope .entry) }) (now (samples .entry)) .envelope ⌝ }
+{
+    if f.count + samples.len() as u64 <= g.decimation {
+        return hear_part(slack, g, f, envelope, samples);
+    }
+    hear_four(slack, g, f, envelope, samples)
+}
+
+// How many of the samples left make the next run: four whole blocks, or what there is of the block under way.
+fn run_length(g: Geometry, f: Far, left: usize) -> usize
+    requires { ⌜ (f .count < g .decimation) × (g .decimation ≤ 192) × (0 < left) ⌝ }
+    ensures { λ r. ⌜ RunLength g f left r ⌝ }
+{
+    if f.count == 0 {
+        if 4 * g.decimation <= left as u64 {
+            return 4 * g.decimation as usize;
+        }
+    }
+    let rest = (g.decimation - f.count) as usize;
+    if rest < left {
+        return rest;
+    }
+    left
+}
+
+// A push goes run by run.
 fn hear_all(slack: u32, g: Geometry, far: Far, envelope: &mut [f32], samples: &[f32]) -> Far
     requires { ⌜ HearsAll slack g far (now envelope) (now samples) ⌝ }
     ensures far { λ r. ⌜ r ≡ hearAll slack g (record { far = far; envelope = now (envelope .entry) }) (now (samples .entry)) .far ⌝ }
@@ -64,8 +128,9 @@ fn hear_all(slack: u32, g: Geometry, far: Far, envelope: &mut [f32], samples: &[
     let mut f = far;
     let mut i = 0;
     while i < samples.len() {
-        f = hear(slack, g, f, envelope, samples[i]);
-        i += 1;
+        let end = i + run_length(g, f, samples.len() - i);
+        f = hear_run(slack, g, f, envelope, &samples[i..end]);
+        i = end;
     }
     f
 }

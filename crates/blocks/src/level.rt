@@ -5,6 +5,7 @@ ghost use mathlib.Core.Bool.{true};
 ghost use Prim.Native.Nat.{_≤_};
 ghost use lib.Ieee.Scale.{finite};
 ghost use Rattle.answers.specs.Refusals.{require, none, tooLarge, notFinite};
+ghost use Rattle.floats.specs.Functions.{magnitude};
 ghost use Rattle.coarse.specs.Blocks;
 ghost use Rattle.coarse.specs.Blocks.{levelOf};
 
@@ -21,11 +22,19 @@ pub fn later_refusal(small: bool, fine: bool) -> u8
     0
 }
 
+// The absolute value of a number: its pattern with the sign clear. Of what is known to be finite no test for a NaN is due.
+fn size(x: f64) -> f64
+    requires { ⌜ finite x ≡ true ⌝ }
+    ensures { λ r. ⌜ r ≡ magnitude x ⌝ }
+{
+    f64::from_bits(f64::to_bits(x) % 0x8000_0000_0000_0000)
+}
+
 pub fn summed(sum: f64, sample: f32) -> f64
     requires { ⌜ finite sample ≡ true ⌝ }
     ensures { λ r. ⌜ r ≡ Blocks.summed sum sample ⌝ }
 {
-    sum + floats::magnitude(sample as f64)
+    sum + size(sample as f64)
 }
 
 pub fn level_of(g: Geometry, sum: f64) -> f32

@@ -1,6 +1,7 @@
 // How far and near samples become levels: the two pushes. No call has a `requires`; what each of them does is defined in crate coarse.
 // The modules have the functions behind the calls.
 pub mod level; // what both pushes have in common
+mod sums; // the sums of a far push
 pub mod far; // a push of far samples
 pub mod near; // one near sample
 

@@ -1,10 +1,12 @@
 -- `blocks::far::hear_all` meets its contract: the invariant is `Going`.
-use Prim.Native.Nat.{_-_}
-use mathlib.Core.Path.{_≡_, refl}
+use Prim.Native.Nat.{ℕ, _+_, _-_}
+use mathlib.Core.Path.{_≡_, refl, sym, _∙_, subst}
 use native.Mathlib.Omega.{arith}
 use lib.ListN.{length}
+use Rattle.blocks.specs.Ready.{Shaped}
+use Rattle.blocks.proofs.Pushing.{Going, starts, ends}
+use Rattle.blocks.proofs.Groups.{cut-length, run-ready, run-heard}
 use borrow.Author.Needs.{needs}
-use Rattle.blocks.proofs.Pushing.{Going, starts, hears, hears-next, ends}
 use Rattle.blocks.proofs.far.hear_all.Statement.{statement}
 use Rattle.blocks.proofs.far.hear_all.Tie as tie
 
@@ -19,31 +21,52 @@ loop-holds c =
     let k = c .before .before in
     (refl, starts (k .args .slack) (k .args .g) (record { far = k .args .far; envelope = k .args .envelope .now }) (k .args .samples .now) (k .pre))
 
-mul-hear : tie.Need-mul-hear Inv-loop μ-loop
-mul-hear c = search needs
+sub-run-length : tie.Need-sub-run-length Inv-loop μ-loop
+sub-run-length c = search needs
 
-shared-slice-read-hear : tie.Need-shared-slice-read-hear Inv-loop μ-loop
-shared-slice-read-hear c = search needs
+run-length-requires : tie.Need-run-length-requires Inv-loop μ-loop
+run-length-requires c κs =
+    let k = c .before .loop .inv .1 .left in
+    (k .placed .partial, k .bounds .decimation, omega arith)
 
-hear-requires : tie.Need-hear-requires Inv-loop μ-loop
-hear-requires c κs =
-    let a = c .before .before .before .before .before .before .args in
-    let l = c .before .before .before .loop in
-    hears (a .slack) (a .g) (record { far = a .far; envelope = a .envelope .now }) (a .samples .now) (record { far = l .f; envelope = l .envelope }) (l .i) (omega arith) (l .inv .1)
+add-end : tie.Need-add-end Inv-loop μ-loop
+add-end c = search needs
 
-add-i : tie.Need-add-i Inv-loop μ-loop
-add-i c = search needs
+mul-hear-run : tie.Need-mul-hear-run Inv-loop μ-loop
+mul-hear-run c = search needs
+
+sub-hear-run : tie.Need-sub-hear-run Inv-loop μ-loop
+sub-hear-run c = search needs
+
+part-hear-run-start : tie.Need-part-hear-run-start Inv-loop μ-loop
+part-hear-run-start c = search needs
+
+part-hear-run-end : tie.Need-part-hear-run-end Inv-loop μ-loop
+part-hear-run-end c = search needs
+
+hear-run-requires : tie.Need-hear-run-requires Inv-loop μ-loop
+hear-run-requires c κs =
+    let a = c .before .before .before .before .before .before .before .args in
+    let l = c .before .before .before .before .loop in
+    let r = c .before .before .run-length in
+    let end = l .i + r .result in
+    let n : end - l .i ≡ r .result = omega arith in
+    record {
+      all = run-ready (a .slack) (a .g) (record { far = a .far; envelope = a .envelope .now }) (a .samples .now) (record { far = l .f; envelope = l .envelope }) (l .i) end (l .inv .1) (omega arith) (omega (arith, r .ensures .within));
+      shaped = subst (λ (t : ℕ). Shaped (a .g) (l .f) t) (sym (cut-length (a .samples .now) (l .i) end (omega arith) (omega (arith, r .ensures .within)) ∙ n)) (r .ensures .shaped);
+    }
 
 loop-less : tie.Need-loop-less Inv-loop μ-loop
-loop-less c = omega arith
+loop-less c = omega (arith, c .before .before .before .before .before .run-length .ensures .some, c .before .before .before .before .before .run-length .ensures .within)
 
 loop-again : tie.Need-loop-again Inv-loop μ-loop
 loop-again c =
-    let a = c .before .before .before .before .before .before .before .before .before .args in
-    let l = c .before .before .before .before .before .before .loop in
-    let k = c .before .before .hear in (
+    let a = c .before .before .before .before .before .before .before .before .before .before .args in
+    let l = c .before .before .before .before .before .before .before .loop in
+    let r = c .before .before .before .before .before .run-length in
+    let k = c .before .before .hear-run in (
       omega (arith, l .inv .0, k .kept),
-      hears-next (a .slack) (a .g) (record { far = a .far; envelope = a .envelope .now }) (a .samples .now) (record { far = l .f; envelope = l .envelope }) (l .i) (omega arith) (l .inv .1) _ _ (k .ensures .0) (k .ensures .1),
+      run-heard (a .slack) (a .g) (record { far = a .far; envelope = a .envelope .now }) (a .samples .now) (record { far = l .f; envelope = l .envelope }) (l .i) (l .i + r .result) (l .inv .1) (omega arith) (omega (arith, r .ensures .within)) _ _ (k .ensures .0) (k .ensures .1),
     )
 
 same-length : tie.Need-same-length Inv-loop μ-loop
@@ -63,10 +86,14 @@ hear-all-spec =
     Inv-loop
     μ-loop
     loop-holds
-    mul-hear
-    shared-slice-read-hear
-    hear-requires
-    add-i
+    sub-run-length
+    run-length-requires
+    add-end
+    mul-hear-run
+    sub-hear-run
+    part-hear-run-start
+    part-hear-run-end
+    hear-run-requires
     loop-less
     loop-again
     same-length
