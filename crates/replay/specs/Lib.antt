@@ -3,3 +3,4 @@ pub mod Events
 pub mod Log
 pub mod Telling
 pub mod Library
+pub mod Hosts

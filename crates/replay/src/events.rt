@@ -59,11 +59,12 @@ fn with_scan(session: Session, scan: Scan) -> Session
     ensures { λ r. ⌜ r ≡ withScan session scan ⌝ }
 {
     let tracker = session.tracker;
+    let frames = session.frames;
     let used = session.used;
     Session {
         scan,
         tracker,
-        frames: session.frames,
+        frames,
         cycles: session.cycles,
         used,
     }
