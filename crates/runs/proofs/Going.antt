@@ -1,16 +1,17 @@
 -- A run under way, and the runs that end at once or go through.
-use Prim.Native.Nat.{ℕ, zero, suc, _+_, _≤_, _<_}
+use Prim.Native.Nat.{ℕ, _+_, _-_, _≤_, _<_}
 use mathlib.Core.Path.{_≡_, refl, sym, ap, _∙_}
-use mathlib.Core.List.{List, [], _∷_}
+use mathlib.Core.List.{List, [], _∷_, _++_}
 use mathlib.Core.Bool.{Bool, true, false, not}
 use native.Mathlib.Nat.{add-assoc, add-zero, zero-add}
 use native.Mathlib.Numerals.{add-one}
 use native.Mathlib.Omega.{arith}
 use lib.Dec.{eqb}
-use lib.ListN.{length, drop, drop-of-length-le}
-use lib.Seq.{drop-cons}
+use lib.ListN.{length, take, drop, length-take, length-drop, drop-of-length-le, take-append-drop}
+use lib.Seq.{drop-cons, drop-drop}
 use lib.Ieee.{Float, nan}
-use Rattle.answers.specs.Pick.{pick-true, pick-false}
+use lib.Ieee.Scale.{finite}
+use Rattle.answers.specs.Pick.{pick-true, pick-false, pick-case}
 use Rattle.answers.specs.Numbers.{limit, nextLongCount}
 use Rattle.answers.proofs.Refusals.{passed, passed-both}
 use Rattle.folds.specs.Sums.{at}
@@ -24,7 +25,8 @@ use Rattle.blocks.proofs.Calls.{not-taken, is-ignored}
 use Rattle.blocks.specs.Ready.{Gathers}
 use Rattle.scan.proofs.Chains.{yes, later}
 use Rattle.runs.specs.Runs.{Run, passes, rests, further, ran}
-use Rattle.runs.specs.Ready.{passable, stepped, Open}
+use Rattle.runs.specs.Ready.{passable, stepped, totalOf, moved, stretched, Reaches, Open}
+use Rattle.runs.proofs.Stretching.{leapt}
 use Rattle.runs.proofs.Passing.{Steady, steady, stays, goes-on, keeps, gathers, small}
 
 -- ---- runs in which every sample is answered alike
@@ -68,6 +70,13 @@ pub record Going (s₀ : Scan) (levels₀ xs : List Float) (first : ℕ) (n : Ne
   pub ready : Steady (withNear s₀ n) levels
   pub whole : further i (ran (withNear s₀ n) levels (drop i xs) index) ≡ ran s₀ levels₀ xs first
 
+-- from there on to the near frame n′, by as many samples as its partial count is larger
+pub record Leap (s₀ : Scan) (levels₀ xs : List Float) (first : ℕ) (n : Near) (levels : List Float) (index i : ℕ) (n′ : Near) : Type 0 where
+  pub onward : n .count ≤ n′ .count
+  pub less : i + (n′ .count - n .count) < length xs
+  pub small : 0 < n′ .count - n .count → index + (n′ .count - n .count) ≤ limit
+  pub going : Going s₀ levels₀ xs first n′ levels (index + (n′ .count - n .count)) (i + (n′ .count - n .count))
+
 module _ (s₀ : Scan) (levels₀ xs : List Float) (first : ℕ) where
   pub starts : Open s₀ levels₀ → Going s₀ levels₀ xs first (s₀ .near) levels₀ first 0
   starts o = record { within = omega arith; ready = steady s₀ levels₀ o; whole = ap (λ (z : ℕ). record { scan = ran s₀ levels₀ xs first .scan; levels = ran s₀ levels₀ xs first .levels; passed = z }) (zero-add (ran s₀ levels₀ xs first .passed)) }
@@ -83,6 +92,40 @@ module _ (s₀ : Scan) (levels₀ xs : List Float) (first : ℕ) where
     pub through : length xs ≤ i → _≡_ {A = Run} (record { scan = now; levels = levels; passed = i }) (ran s₀ levels₀ xs first)
     unfolding ran
     through l = none-more ∙ rw (drop-of-length-le xs l) at (k .whole)
+
+    -- samples that go on with the block, summed at once: where the sum is not finite none is taken
+    pub leaps : (m : ℕ) (part : List Float) (n′ : Near) → Reaches (s₀ .geometry) n index (length xs - i) m → part ≡ take m (drop i xs) → n′ ≡ stretched n part → Leap s₀ levels₀ xs first n levels index i n′
+    leaps m part n′ r e p =
+        let size : length part ≡ m = ap length e ∙ simp (length-take, length-drop) (omega (arith, r .within)) in
+        let parts : part ++ drop (i + m) xs ≡ drop i xs = ap (λ (l : List Float). l ++ drop (i + m) xs) e ∙ ap (λ (l : List Float). take m (drop i xs) ++ l) (sym (drop-drop m i xs)) ∙ take-append-drop m (drop i xs) in
+        rw p
+        (pick-case (λ (z : Near). Leap s₀ levels₀ xs first n levels index i z) (finite (totalOf (n .sum) part)) (moved n part) n
+        (λ h. let q = leapt part (drop (i + m) xs) now levels index (k .ready) (λ z. r .underway (omega (arith, z))) (omega (arith, r .partial)) (λ z. omega (arith, r .small (omega (arith, z)))) h in
+        let taken : n .count + length part - n .count ≡ m = omega arith in
+        let rest = ran (withNear s₀ (moved n part)) levels (drop (i + m) xs) (index + m) in
+        record {
+          onward = omega arith;
+          less = omega (arith, taken, r .within);
+          small = λ z. omega (arith, taken, r .small (omega (arith, taken, z)));
+          going = rw taken
+              (record {
+                within = omega (arith, r .within);
+                ready = q .ready;
+                whole =
+                    ap (λ (z : ℕ). record { scan = rest .scan; levels = rest .levels; passed = z }) (add-assoc i m (rest .passed))
+                    ∙ ap (λ (z : ℕ). further i (further z (ran (withNear s₀ (moved n part)) levels (drop (i + m) xs) (index + z)))) (sym size)
+                    ∙ ap (further i) (q .same)
+                    ∙ ap (λ (l : List Float). further i (ran now levels l index)) parts
+                    ∙ k .whole;
+              });
+        })
+        (λ h. let taken : n .count - n .count ≡ 0 = omega arith in
+        record {
+          onward = omega arith;
+          less = omega (arith, taken, r .within);
+          small = λ z. absurd (omega (arith, taken, z));
+          going = rw (taken, add-zero index, add-zero i) k;
+        }))
 
     module _ (more : i < length xs) where
       rest : further i (ran now levels (at xs i ∷ drop (i + 1) xs) index) ≡ ran s₀ levels₀ xs first

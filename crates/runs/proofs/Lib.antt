@@ -1,3 +1,4 @@
 pub mod Passing
+pub mod Stretching
 pub mod Going
 pub mod Determined

@@ -7,13 +7,14 @@ use coarse::Scan;
 use scan::parts;
 use scan::rules;
 ghost use mathlib.Core.Path.{_≡_};
-ghost use Prim.Native.Nat.{_<_};
+ghost use Prim.Native.Nat.{_+_, _^_, _≤_, _<_};
+ghost use lib.ListN.{length};
 ghost use mathlib.Core.Bool.{false};
 ghost use Rattle.blocks.specs.Ready.{Gathers};
 ghost use Rattle.coarse.specs.Blocks.{dropped};
 ghost use Rattle.runs.specs.Runs.{Run, ran};
 ghost use Rattle.runs.specs.Ready;
-ghost use Rattle.runs.specs.Ready.{stepped, Open};
+ghost use Rattle.runs.specs.Ready.{stepped, totalOf, stretched, Reaches, Open};
 
 // The state after a run, and how many samples passed.
 pub struct Ran {
@@ -64,6 +65,56 @@ fn step(g: Geometry, n: Near, levels: &mut [f32], sample: f32, index: u64) -> Ne
     near::gather(g, n, levels, sample, index)
 }
 
+// ---- samples that go on with a block are summed at once
+
+fn total(sum: f64, samples: &[f32]) -> f64
+    ensures { λ r. ⌜ r ≡ totalOf sum (now (samples .entry)) ⌝ }
+{
+    let mut total = sum;
+    let mut i = 0;
+    while i < samples.len() {
+        total = total + floats::magnitude(std::num::f32_to_f64_with_nan(samples[i]));
+        i += 1;
+    }
+    total
+}
+
+fn stretch(n: Near, samples: &[f32]) -> Near
+    requires { ⌜ n .count + length (now samples) < 2 ^ 64 ⌝ }
+    ensures { λ r. ⌜ r ≡ stretched n (now (samples .entry)) ⌝ }
+{
+    let sum = total(n.sum, samples);
+    if !floats::is_finite(sum) {
+        return n;
+    }
+    Near {
+        len: n.len,
+        sum,
+        count: n.count + samples.len() as u64,
+        first: n.first,
+    }
+}
+
+// So many of the samples that are left can be summed at once: they do not complete the block, and one is left.
+fn reach(g: Geometry, n: Near, index: u64, left: usize) -> usize
+    requires { ⌜ (n .count < g .decimation) × (g .decimation ≤ 192) × (0 < left) ⌝ }
+    ensures { λ r. ⌜ Reaches g n index left r ⌝ }
+{
+    if rules::idle(n) {
+        return 0;
+    }
+    let block = g.decimation - 1 - n.count;
+    if index >= answers::LIMIT - block {
+        return 0;
+    }
+    if block < left as u64 {
+        return block as usize;
+    }
+    left - 1
+}
+
+// ---- the run
+
 // The samples one after the other, in a state that was judged.
 fn walk(scan: Scan, levels: &mut [f32], samples: &[f32], first: u64) -> Ran
     requires { ⌜ Open scan (now levels) ⌝ }
@@ -74,6 +125,12 @@ fn walk(scan: Scan, levels: &mut [f32], samples: &[f32], first: u64) -> Ran
     let mut index = first;
     let mut i = 0;
     while i < samples.len() {
+        let end = i + reach(g, near, index, samples.len() - i);
+        let after = stretch(near, &samples[i..end]);
+        let taken = after.count - near.count;
+        near = after;
+        index += taken;
+        i += taken as usize;
         let x = samples[i];
         if !passable(g, near, x, index) {
             return Ran {
