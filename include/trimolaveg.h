@@ -5,7 +5,7 @@
  * How to call
  *   - Nothing here allocates, blocks, keeps a pointer or has a state of its own. All memory is lent by the caller, call by call.
  *   - A list is a pointer and the number of its elements. Any numbers may stand in it; the pointer must be valid for that many
- *     elements, also where there are none, and two lists of one call must not overlap unless both are only read.
+ *     elements, and not NULL where there are none; two lists of one call must not overlap unless both are only read.
  *   - A state is a list of 64-bit words, to be kept by the caller between calls. Its layout is below; a call finds out itself
  *     whether the words are a state. Floats stand in it as IEEE 754 bit patterns, an f32 in the low half of its word; flags are 0 and 1.
  *   - Every call answers a number. Below 16 it is a refusal (TMV_OUTSIDE_TABLE to TMV_NO_FULL_FRAME): then nothing that was lent has
@@ -153,7 +153,8 @@ uint64_t tmv_square_root(uint64_t bits);
 /* ---- the far reference ring. Samples are f32 bit patterns of any kind, NaNs too.
  *
  * Words: 0 samples accepted in all, at most 2^62 (a rule). The buffer is lent with every call; its length, 1 or more, is the capacity.
- * Every call refuses: 2 a state of other than 1 word, values of other than 1 word, a buffer of length 0; 3 more than 2^62 accepted. */
+ * Every call refuses: 2 a state of other than 1 word, values of other than 1 word, a buffer of length 0; 3 more than 2^62 accepted.
+ * A making does not look at what the words held; so for the other states. */
 
 uint64_t tmv_ring_words(void);
 
@@ -200,7 +201,7 @@ uint64_t tmv_scan_window_len(uint32_t rate, uint32_t ceiling);
 uint64_t tmv_scan_prefix_len(uint32_t rate, uint32_t ceiling);
 uint64_t tmv_scan_lags_len(uint32_t rate, uint32_t ceiling);
 
-/* A new scan. Zeroes the envelope and the lag sums. What the words held does not matter. */
+/* A new scan. Zeroes the envelope and the lag sums. */
 uint32_t tmv_scan_new(uint64_t *state, size_t state_len, float *envelope, size_t envelope_len, double *lag_sums, size_t lag_sums_len, uint32_t rate, uint32_t ceiling);
 
 /* The scan as it was made. */

@@ -7,3 +7,4 @@ command -v cc >/dev/null 2>&1 || { echo "header: no C compiler here, so it is no
 for standard in c99 c17; do
   cc -std=$standard -Wall -Wextra -Wpedantic -Werror -fsyntax-only -x c include/trimolaveg.h
 done
+! command -v c++ >/dev/null 2>&1 || c++ -Wall -Wextra -Wpedantic -Werror -fsyntax-only -x c++ include/trimolaveg.h

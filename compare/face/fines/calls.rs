@@ -120,9 +120,6 @@ impl Call {
 
     pub fn face(&self, w: &mut World) -> u32 {
         let values = w.values.lent_mut();
-        let told = |report: fn(&[u64], &mut [u64]) -> u32, state: &[u64], values: &mut [u64]| {
-            report(state, values)
-        };
         let report: fn(&[u64], &mut [u64]) -> u32 = match *self {
             Call::New(span) => return face::new(w.state.lent_mut(), span),
             Call::Restart => return face::restart(w.state.lent_mut()),
@@ -151,7 +148,7 @@ impl Call {
             Call::LastScanOrigin => face::last_scan_origin,
             Call::Scans => face::scans,
         };
-        told(report, w.state.lent(), values)
+        report(w.state.lent(), values)
     }
 }
 

@@ -1,4 +1,4 @@
-//! Which refusal is due, by document 01 alone.
+//! Which refusal is due: document 01's table, order and state rules, and what the C header says of lists and words. Nothing of the core's source.
 
 use crate::fines::calls::{Call, Part, World, WORDS};
 use crate::rules::*;

@@ -13,7 +13,7 @@ use crate::coarse::CoarseScan;
 use crate::random::Random;
 use crate::rules::Bins;
 use crate::tally::Tally;
-use calls::{Call, NAMES};
+use calls::{Call, NAMES, OBSERVED};
 use damage::Damage;
 use world::{Part, World};
 
@@ -64,6 +64,7 @@ impl Run {
 
     /// Another rate and ceiling. Spans are small mostly, so that many frames are scored in the time.
     fn begin(&mut self) {
+        self.look_around();
         let random = &mut self.random;
         let rate = match random.below(3) {
             0 => random.between(8000, 192_000) as u32,
@@ -80,6 +81,16 @@ impl Run {
             return;
         }
         teleport::far(random, &mut self.world);
+    }
+
+    /// The guards of what the last call was not lent, too.
+    fn look_around(&mut self) {
+        for part in OBSERVED {
+            if !self.world.part(part).intact() {
+                self.tally
+                    .differs(0, &format!("a guard of {part:?} was written by some call"));
+            }
+        }
     }
 
     /// Now and then a legal state that calls alone would take long to reach.
@@ -300,8 +311,7 @@ impl Run {
             self.setting = (self.world.word(0), self.world.word(1));
             self.behind = true;
         }
-        let restarted =
-            due == 0 && self.fits() && matches!(call, Call::New { .. } | Call::Reset);
+        let restarted = due == 0 && self.fits() && matches!(call, Call::New { .. } | Call::Reset);
         if restarted && !self.random.once_in(4) {
             teleport::far(&mut self.random, &mut self.world);
             self.behind = true;
