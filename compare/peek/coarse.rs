@@ -104,6 +104,7 @@ impl CoarseScan {
             let reached = self.asked(|scan| {
                 let end = scan.near_frame_start_abs + scan.frame as u64;
                 scan.far_env_next_abs = scan.far_env_next_abs.max(end);
+                scan.far_env.fill(0.0);
                 scan.window.fill(f32::NAN);
             });
             return if unwritten(reached) {
@@ -201,6 +202,36 @@ impl CoarseScan {
         self.near_frame_start_abs = first_bin;
         self.near_acc = 0.0;
         self.near_count = 0;
+    }
+
+    /// Every field that is no buffer. The near frame keeps as many levels as it is to have, or gets zeros.
+    pub(crate) fn set_fields(&mut self, fields: Fields) {
+        self.far_env_next_abs = fields.far_blocks;
+        self.far_acc = fields.far_sum;
+        self.far_count = fields.far_count;
+        self.far_pushed = fields.far_pushed;
+        self.near_env.resize(fields.near_len, 0.0);
+        self.near_acc = fields.near_sum;
+        self.near_count = fields.near_count;
+        self.near_frame_start_abs = fields.first_bin;
+        self.accumulated = fields.banked;
+        self.frames = fields.frames;
+        self.last_corr = fields.last_peak;
+        self.best = fields.region;
+        self.beyond_ceiling = fields.beyond_ceiling;
+        self.exhausted = fields.exhausted;
+    }
+
+    /// Every buffer: the levels and the sums as `levels` and `sums` give them.
+    pub(crate) fn set_buffers(&mut self, levels: [&[f32]; 3], sums: [&[f64]; 4]) {
+        self.far_env.copy_from_slice(levels[0]);
+        self.near_env.clear();
+        self.near_env.extend_from_slice(levels[1]);
+        self.window.copy_from_slice(levels[2]);
+        self.prefix_sum.copy_from_slice(sums[0]);
+        self.prefix_sq.copy_from_slice(sums[1]);
+        self.corr.copy_from_slice(sums[2]);
+        self.corr_avg.copy_from_slice(sums[3]);
     }
 
     pub(crate) fn set_far_level(&mut self, slot: usize, level: f32) {

@@ -31,4 +31,29 @@ impl DelayEstimator {
         self.skipped = skipped;
         self.scans = scans;
     }
+
+    /// Every field that the gate and the peak rule touch. Of both frames as much as there is.
+    pub(crate) fn set_state(
+        &mut self,
+        origin: usize,
+        near: &[f32],
+        retained: Option<&[f32]>,
+        counts: (u32, u32, u64),
+    ) {
+        self.search_origin = origin;
+        self.near_frame.clear();
+        self.near_frame.extend_from_slice(near);
+        self.retained_near_valid = retained.is_some();
+        self.retained_near.clear();
+        self.retained_near
+            .extend_from_slice(retained.unwrap_or(&[]));
+        self.set_counts(counts.0, counts.1, counts.2);
+    }
+
+    /// What the last scan left.
+    pub(crate) fn set_last_scan(&mut self, ratio: f64, peak_at: Option<usize>, origin: usize) {
+        self.last_scan_ratio = ratio;
+        self.last_scan_peak_at = peak_at;
+        self.last_scan_origin = origin;
+    }
 }

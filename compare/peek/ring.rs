@@ -4,3 +4,16 @@ impl ReferenceRing {
         self.next_abs = next_abs;
     }
 }
+
+// The samples in their places, read and set.
+impl ReferenceRing {
+    pub(crate) fn samples(&self) -> &[f32] {
+        &self.buf
+    }
+
+    pub(crate) fn set_samples(&mut self, samples: impl Iterator<Item = f32>) {
+        for (place, sample) in self.buf.iter_mut().zip(samples) {
+            *place = sample;
+        }
+    }
+}

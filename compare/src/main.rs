@@ -29,6 +29,7 @@ compare vectors scan SEED FOLDER      writes FOLDER/calls and FOLDER/full
 compare vectors fine SEED FOLDER      writes FOLDER/calls and FOLDER/arrays
 compare vectors replay SEED FOLDER    writes index, events, far, near, logs and names of recordings
 compare vectors demo SEED FOLDER      writes events, far, near and log of the demo recording
+compare long WHICH MINUTES FOLDER     writes events, far and near of a long recording: working or found
 compare replay EVENTS FAR NEAR        prints the log of a recording
 compare replays SEED COUNT PROGRAM    runs PROGRAM EVENTS FAR NEAR on random recordings and compares what it prints";
 
@@ -38,6 +39,7 @@ fn main() {
     let done = match words[..] {
         ["vectors", what, seed, folder] => vectors::write(what, seed, folder),
         ["replays", seed, count, program] => replays(seed, count, program),
+        ["long", which, minutes, folder] => long(which, minutes, folder),
         ["replay", events, far, near] => print_log(events, far, near),
         _ => Err(USAGE.to_string()),
     };
@@ -45,6 +47,29 @@ fn main() {
         eprintln!("{message}");
         std::process::exit(2);
     }
+}
+
+fn long(which: &str, minutes: &str, folder: &str) -> Result<(), String> {
+    let minutes = minutes
+        .parse()
+        .map_err(|_| format!("'{minutes}' is no number of minutes"))?;
+    let mut random = random::Random::new(1);
+    let recording = match which {
+        "working" => replay::recordings::long::working(&mut random, minutes),
+        "found" => replay::recordings::long::found(&mut random, minutes),
+        _ => return Err(format!("there is no long recording '{which}'")),
+    };
+    let sides = [
+        ("events", recording.events),
+        ("far", recording.far),
+        ("near", recording.near),
+    ];
+    std::fs::create_dir_all(folder).map_err(|error| format!("{folder}: {error}"))?;
+    for (name, bytes) in sides {
+        let path = format!("{folder}/{name}");
+        std::fs::write(&path, bytes).map_err(|error| format!("{path}: {error}"))?;
+    }
+    Ok(())
 }
 
 fn print_log(events: &str, far: &str, near: &str) -> Result<(), String> {

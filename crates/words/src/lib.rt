@@ -2,6 +2,7 @@
 ghost use mathlib.Core.Path.{_≡_};
 ghost use Prim.Native.Nat.{_<_, _^_};
 ghost use lib.Ieee.{binary32, binary64, ofBits};
+ghost use lib.ListN.{length};
 ghost use Rattle.words.specs.Words;
 ghost use Rattle.words.specs.Words.{patternOf, flagOf};
 
@@ -75,4 +76,16 @@ pub fn flag(b: bool) -> u64
         return 1;
     }
     0
+}
+
+// A whole state, word by word.
+pub fn put(from: &[u64], to: &mut [u64])
+    requires { ⌜ length (now from) ≡ length (now to) ⌝ }
+    ensures { λ _. ⌜ now (to .exit) ≡ now (from .entry) ⌝ }
+{
+    let mut i = 0;
+    while i < from.len() {
+        to[i] = from[i];
+        i += 1;
+    }
 }

@@ -2,6 +2,7 @@
 
 mod bad;
 mod chance;
+pub mod long;
 mod refused;
 mod scene;
 mod words;

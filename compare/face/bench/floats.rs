@@ -1,0 +1,44 @@
+//! Square root and narrowing beside the processor's own.
+
+use crate::bench::{nanoseconds, Times};
+use crate::face;
+use crate::random::Random;
+use std::hint::black_box;
+
+const COUNT: usize = 4_096;
+
+/// Positive numbers of middling size.
+fn patterns() -> Vec<u64> {
+    let mut random = Random::new(1);
+    (0..COUNT)
+        .map(|_| (1023 - 20 + random.below(40)) << 52 | random.word() >> 12)
+        .collect()
+}
+
+fn each<T>(patterns: &[u64], work: impl Fn(u64) -> T) -> f64 {
+    nanoseconds(|| {
+        for bits in patterns {
+            black_box(work(black_box(*bits)));
+        }
+    })
+}
+
+pub fn root() {
+    let patterns = patterns();
+    let times = Times::take(
+        300,
+        || each(&patterns, face::square_root),
+        || each(&patterns, |bits| f64::from_bits(bits).sqrt()),
+    );
+    times.row("square root, beside the hardware's", COUNT);
+}
+
+pub fn narrowing() {
+    let patterns = patterns();
+    let times = Times::take(
+        300,
+        || each(&patterns, face::narrow),
+        || each(&patterns, |bits| f64::from_bits(bits) as f32),
+    );
+    times.row("narrowing, beside the hardware's", COUNT);
+}

@@ -1,0 +1,145 @@
+//! The scan: a counted frame, its roots, far and near pushes.
+
+use crate::bench::{least, nanoseconds, told, Times};
+use crate::choices;
+use crate::coarse::CoarseScan;
+use crate::face;
+use crate::random::Random;
+use crate::scans::calls::observe;
+use crate::scans::world::World;
+use std::cell::RefCell;
+use std::hint::black_box;
+
+/// A full frame over a history that has wrapped.
+fn waiting(rate: u32, ceiling: u32) -> World {
+    let mut random = Random::new(7);
+    let mut w = World::new(rate, ceiling);
+    let bins = w.bins();
+    for level in w.envelope.all_mut() {
+        *level = choices::level(&mut random);
+    }
+    for level in w.levels.all_mut() {
+        *level = choices::level(&mut random);
+    }
+    let blocks = bins.envelope() + 100;
+    w.set_word(8, blocks);
+    w.set_word(11, blocks * bins.decimation);
+    w.set_word(12, bins.frame);
+    w.set_word(15, blocks - bins.frame - 3);
+    w
+}
+
+pub fn frames(rate: u32, ceiling: u32, runs: usize) {
+    let w = waiting(rate, ceiling);
+    let given = w.state.all().to_vec();
+    let mut original = w.original();
+    let near = w.levels.all().to_vec();
+    let world = RefCell::new(w);
+    let times = Times::take(
+        runs,
+        || {
+            let w = &mut *world.borrow_mut();
+            w.state.all_mut().copy_from_slice(&given);
+            let mut answer = 0;
+            let time = nanoseconds(|| answer = observe(w));
+            assert_eq!(answer, 20, "the frame is banked");
+            time
+        },
+        || {
+            original.set_near(near.clone(), given[15]);
+            original.set_counts(0, 0, false);
+            nanoseconds(|| original.observe())
+        },
+    );
+    times.row(
+        &format!("counted frame, {rate} / {ceiling}, every refusal test included"),
+        1,
+    );
+    let roots = roots(&world.borrow(), runs);
+    let (ours, rust) = (least(&times.ours), least(&times.rust));
+    println!(
+        "| all but the roots | {} | | {:.2} | |",
+        told(ours - roots),
+        (ours - roots) / rust
+    );
+    println!(
+        "| the roots' share of our frame | {:.0} % | | | |",
+        100.0 * roots / ours
+    );
+}
+
+/// As many roots as the frame has lags, of its own energies.
+fn roots(w: &World, runs: usize) -> f64 {
+    let frame = w.bins().frame as usize;
+    let products: Vec<u64> = (0..w.lag_sums.all().len())
+        .map(|lag| {
+            let sum = w.prefix.all()[lag + frame] - w.prefix.all()[lag];
+            let squares = w.squares.all()[lag + frame] - w.squares.all()[lag];
+            ((squares - sum * sum / frame as f64) * 7.321).to_bits()
+        })
+        .collect();
+    let time = || {
+        nanoseconds(|| {
+            for product in &products {
+                black_box(face::square_root(*product));
+            }
+        })
+    };
+    least(&(0..runs).map(|_| time()).collect::<Vec<f64>>())
+}
+
+pub fn far_push(count: usize) {
+    let mut random = Random::new(9);
+    let samples: Vec<f32> = (0..count).map(|_| choices::sample(&mut random)).collect();
+    let mut w = World::new(48_000, 500);
+    let mut original = CoarseScan::new(48_000, 500);
+    let times = Times::take(
+        2_000,
+        || {
+            let mut answer = 0;
+            let time = nanoseconds(|| {
+                answer = face::scan::push_far(
+                    w.state.lent_mut(),
+                    w.envelope.lent_mut(),
+                    black_box(&samples),
+                );
+            });
+            assert_eq!(answer, 16);
+            time
+        },
+        || nanoseconds(|| original.push_far(black_box(&samples))),
+    );
+    times.row(&format!("far push of {count} samples, a push"), 1);
+}
+
+pub fn near_push() {
+    const COUNT: usize = 4_096;
+    let mut random = Random::new(9);
+    let samples: Vec<f32> = (0..COUNT).map(|_| choices::sample(&mut random)).collect();
+    let times = Times::take(
+        300,
+        || {
+            let mut w = World::new(48_000, 500);
+            nanoseconds(|| {
+                for (index, sample) in samples.iter().enumerate() {
+                    let answer = face::scan::push_near(
+                        w.state.lent_mut(),
+                        w.levels.lent_mut(),
+                        *sample,
+                        index as u64,
+                    );
+                    black_box(answer);
+                }
+            })
+        },
+        || {
+            let mut original = CoarseScan::new(48_000, 500);
+            nanoseconds(|| {
+                for (index, sample) in samples.iter().enumerate() {
+                    black_box(original.push_near(black_box(*sample), index as u64));
+                }
+            })
+        },
+    );
+    times.row("near push, a sample", COUNT);
+}

@@ -1,0 +1,171 @@
+//! Square root and narrowing against the processor's own; document 01 fixes what a NaN gives.
+
+use crate::face;
+use crate::random::Random;
+use crate::rules::{self, Bins, Lengths};
+
+const NAN_64: u64 = 0x7ff8_0000_0000_0000;
+const NAN_32: u32 = 0x7fc0_0000;
+
+pub fn root(bits: u64) -> u64 {
+    let x = f64::from_bits(bits);
+    if x.is_nan() || x < 0.0 {
+        return NAN_64;
+    }
+    x.sqrt().to_bits()
+}
+
+pub fn narrowed(bits: u64) -> u32 {
+    let x = f64::from_bits(bits);
+    if x.is_nan() {
+        return NAN_32;
+    }
+    (x as f32).to_bits()
+}
+
+/// Any pattern; squares and products, whose roots are near a tie or exact; values halfway between two f32, and beside it;
+/// subnormals of both widths; ends of the range.
+fn pattern(random: &mut Random) -> u64 {
+    match random.below(10) {
+        0..=2 => random.word(),
+        3 => {
+            let (a, b) = (random.word() as u32, random.word() as u32);
+            (f32::from_bits(a) as f64 * f32::from_bits(b) as f64).to_bits()
+        }
+        4 => {
+            let x = (random.word() >> random.between(11, 40)) as f64;
+            (x * x)
+                .to_bits()
+                .wrapping_add(random.below(3))
+                .wrapping_sub(1)
+        }
+        5 | 6 => {
+            // An f32 of any exponent, and half of its last place more, or a hair beside that.
+            let exponent = 1023 - 151 + random.below(282);
+            let fraction = (random.word() >> 12) & !0x1fff_ffff | 0x1000_0000;
+            let sign = random.below(2) << 63;
+            let tie = sign | exponent << 52 | fraction;
+            tie.wrapping_add(random.below(5)).wrapping_sub(2)
+        }
+        7 => {
+            // What narrows to a subnormal: ties of every width.
+            let exponent = 1023 - 150 + random.below(26);
+            let kept = random.below(53);
+            let fraction = (random.word() >> 12) >> kept << kept | ((1u64 << kept) >> 1);
+            random.below(2) << 63 | exponent << 52 | (fraction & 0x000f_ffff_ffff_ffff)
+        }
+        8 => (random.word() >> 12 >> random.below(53)) | random.below(2) << 63,
+        // At and around the largest number that narrows to a finite one.
+        _ => {
+            let largest = 0x47ef_ffff_f000_0000 - random.below(2);
+            crate::choices::word(random, largest)
+        }
+    }
+}
+
+pub fn run(seed: u64, count: u64) -> bool {
+    let one = |what: &str, differs: &dyn Fn(u64) -> Option<String>| {
+        let mut random = Random::new(seed);
+        let mut different = 0;
+        for _ in 0..count {
+            let bits = pattern(&mut random);
+            if let Some(told) = differs(bits) {
+                different += 1;
+                if different <= 5 {
+                    println!("{what} seed {seed}: of {bits:#018x} {told}");
+                }
+            }
+        }
+        println!("{what} seed {seed}: {count} patterns, {different} different");
+        different == 0
+    };
+    let roots = one("square root", &|bits| {
+        let (got, due) = (face::square_root(bits), root(bits));
+        (got != due).then(|| format!("{got:#x}, not {due:#x}"))
+    });
+    let narrowings = one("narrowing", &|bits| {
+        let (got, due) = (face::narrow(bits), narrowed(bits));
+        (got != due).then(|| format!("{got:#x}, not {due:#x}"))
+    });
+    roots && narrowings
+}
+
+/// The lengths that the face says for a rate and ceiling and for a span, 0 outside the table.
+pub fn lengths(seed: u64, count: u64) -> bool {
+    let mut random = Random::new(seed);
+    let mut different = 0;
+    for _ in 0..count {
+        let number = |random: &mut Random, least: u64, most: u64| match random.below(4) {
+            0 => crate::choices::word(random, least) as u32,
+            1 => crate::choices::word(random, most) as u32,
+            _ => random.between(least, most) as u32,
+        };
+        let rate = number(&mut random, 8_000, 192_000);
+        let ceiling = number(&mut random, 1, 4_000);
+        let span = number(&mut random, 1, 32_768);
+        if scan_lengths(rate, ceiling) != told_scan(rate, ceiling)
+            || fine_lengths(span) != told_fine(span)
+        {
+            different += 1;
+            if different <= 5 {
+                println!("lengths seed {seed}: {rate}/{ceiling} or span {span}");
+            }
+        }
+    }
+    let words = [
+        face::scan::words(),
+        face::fine::words(),
+        face::tracker::words(),
+        face::ring::words(),
+    ];
+    if words != [24, 13, 14, 1] {
+        different += 1;
+        println!("lengths: words {words:?}");
+    }
+    println!("lengths seed {seed}: {count} settings, {different} different");
+    different == 0
+}
+
+fn told_scan(rate: u32, ceiling: u32) -> [u64; 5] {
+    use face::scan as f;
+    [
+        f::envelope_len(rate, ceiling),
+        f::levels_len(rate, ceiling),
+        f::window_len(rate, ceiling),
+        f::prefix_len(rate, ceiling),
+        f::lags_len(rate, ceiling),
+    ]
+}
+
+fn scan_lengths(rate: u32, ceiling: u32) -> [u64; 5] {
+    let (rate, ceiling) = (rate as u64, ceiling as u64);
+    if !rules::allowed_rate(rate) || !rules::allowed_ceiling(ceiling) {
+        return [0; 5];
+    }
+    let bins = Bins::of(rate, ceiling);
+    [
+        bins.envelope(),
+        bins.frame,
+        bins.window(),
+        bins.prefix(),
+        bins.lags(),
+    ]
+}
+
+fn told_fine(span: u32) -> [u64; 3] {
+    use face::fine as f;
+    [
+        f::frame_len(span),
+        f::window_len(span),
+        f::correlation_len(span),
+    ]
+}
+
+fn fine_lengths(span: u32) -> [u64; 3] {
+    let span = span as u64;
+    if !rules::allowed_span(span) {
+        return [0; 3];
+    }
+    let lengths = Lengths::of(span);
+    [lengths.frame, lengths.window, span + 1]
+}

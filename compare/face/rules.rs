@@ -1,0 +1,127 @@
+//! Document 01's numbers: what is allowed, and what follows from rate, ceiling and span. Written from the paper alone.
+
+pub const LIMIT: u64 = 1 << 62;
+const SLACK: u64 = 4000;
+
+pub const OUTSIDE_TABLE: u32 = 1;
+pub const WRONG_LENGTH: u32 = 2;
+pub const BROKEN_STATE: u32 = 3;
+pub const NOT_FINITE: u32 = 4;
+pub const TOO_LARGE: u32 = 5;
+pub const FRAME_WAITS: u32 = 6;
+pub const NO_FULL_FRAME: u32 = 7;
+
+pub fn allowed_rate(rate: u64) -> bool {
+    (8_000..=192_000).contains(&rate)
+}
+
+pub fn allowed_ceiling(ceiling: u64) -> bool {
+    (1..=4_000).contains(&ceiling)
+}
+
+pub fn allowed_span(span: u64) -> bool {
+    (1..=32_768).contains(&span)
+}
+
+/// A number of 32 bits.
+pub fn is_half(word: u64) -> bool {
+    word < 1 << 32
+}
+
+pub fn is_flag(word: u64) -> bool {
+    word < 2
+}
+
+pub fn finite32(bits: u32) -> bool {
+    bits & 0x7f80_0000 != 0x7f80_0000
+}
+
+pub fn finite64(bits: u64) -> bool {
+    bits & 0x7ff0_0000_0000_0000 != 0x7ff0_0000_0000_0000
+}
+
+pub fn all_finite32(list: &[f32]) -> bool {
+    list.iter().all(|x| finite32(x.to_bits()))
+}
+
+pub fn all_finite64(list: &[f64]) -> bool {
+    list.iter().all(|x| finite64(x.to_bits()))
+}
+
+/// Milliseconds at a rate, rounded down, at least 1.
+pub fn per_ms(ms: u64, rate: u64) -> u64 {
+    (ms * rate / 1000).max(1)
+}
+
+/// "Bins and blocks": what follows from an allowed rate and ceiling.
+#[derive(Clone, Copy, PartialEq, Eq, Debug)]
+pub struct Bins {
+    pub decimation: u64,
+    pub bin_rate: u64,
+    pub span: u64,
+    pub frame: u64,
+    pub ceiling_guard: u64,
+    pub peak_guard: u64,
+}
+
+impl Bins {
+    pub fn of(rate: u64, ceiling: u64) -> Bins {
+        let decimation = ((rate + 500) / 1000).max(1);
+        let bin_rate = (rate / decimation).max(1);
+        Bins {
+            decimation,
+            bin_rate,
+            span: per_ms(ceiling, bin_rate),
+            frame: per_ms(256, bin_rate),
+            ceiling_guard: per_ms(8, bin_rate),
+            peak_guard: per_ms(30, bin_rate),
+        }
+    }
+
+    pub fn words(&self) -> [u64; 6] {
+        [
+            self.decimation,
+            self.bin_rate,
+            self.span,
+            self.frame,
+            self.ceiling_guard,
+            self.peak_guard,
+        ]
+    }
+
+    pub fn window(&self) -> u64 {
+        self.frame + self.span
+    }
+
+    pub fn envelope(&self) -> u64 {
+        self.window() + SLACK
+    }
+
+    pub fn prefix(&self) -> u64 {
+        self.window() + 1
+    }
+
+    pub fn lags(&self) -> u64 {
+        self.span + 1
+    }
+}
+
+/// "Fine gate and peak": what follows from an allowed span.
+#[derive(Clone, Copy, PartialEq, Eq, Debug)]
+pub struct Lengths {
+    pub transform: u64,
+    pub frame: u64,
+    pub window: u64,
+}
+
+impl Lengths {
+    pub fn of(span: u64) -> Lengths {
+        let transform = (2 * span).next_power_of_two().clamp(256, 65_536);
+        let frame = transform - span;
+        Lengths {
+            transform,
+            frame,
+            window: frame + span,
+        }
+    }
+}

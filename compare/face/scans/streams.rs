@@ -1,0 +1,139 @@
+//! Whole streams from samples: far pushes, a delayed near side sample by sample, frames as they fill, rearms.
+
+use crate::choices;
+use crate::coarse::CoarseScan;
+use crate::face::scan as face;
+use crate::lent::Lent;
+use crate::random::Random;
+use crate::scans::calls::{observe, OBSERVED};
+use crate::scans::world::{Part, World};
+
+pub fn run(seed: u64, scans: u64) -> bool {
+    let mut random = Random::new(seed);
+    let mut totals = Totals::default();
+    for _ in 0..scans {
+        if let Err(what) = Stream::new(&mut random).play(&mut random, &mut totals) {
+            totals.different += 1;
+            println!("streams seed {seed}: {what}");
+        }
+    }
+    println!(
+        "streams seed {seed}: {scans} scans, {} pushes, {} frames, {} regions, {} different",
+        totals.pushes, totals.frames, totals.regions, totals.different
+    );
+    totals.different == 0
+}
+
+#[derive(Default)]
+struct Totals {
+    pushes: u64,
+    frames: u64,
+    regions: u64,
+    different: u64,
+}
+
+struct Stream {
+    world: World,
+    original: CoarseScan,
+    rate: u64,
+    /// The far samples so far, and by how many the near side follows them.
+    played: Vec<f32>,
+    delay: u64,
+    loud: bool,
+}
+
+impl Stream {
+    fn new(random: &mut Random) -> Stream {
+        let rate = random.one_of(&[8000, 8500, 11025, 16000, 22050, 44100, 48000, 192_000]);
+        let ceiling = random.one_of(&[5, 20, 40, 80, 250]);
+        let world = World::new(rate, ceiling);
+        Stream {
+            original: world.original(),
+            world,
+            rate: rate as u64,
+            played: Vec::new(),
+            delay: random.below(ceiling as u64 * rate as u64 / 1000 + 1),
+            loud: false,
+        }
+    }
+
+    /// Three seconds.
+    fn play(mut self, random: &mut Random, totals: &mut Totals) -> Result<(), String> {
+        let mut index = random.below(1000);
+        while (self.played.len() as u64) < 3 * self.rate {
+            self.far(random, totals)?;
+            while index < self.played.len() as u64 {
+                self.near(index, totals)?;
+                index += 1;
+            }
+            if self.original.finished() {
+                totals.regions += self.original.region().is_some() as u64;
+                self.keep(&[Part::State, Part::LagSums]);
+                self.original.rearm();
+                let answer =
+                    face::rearm(self.world.state.lent_mut(), self.world.lag_sums.lent_mut());
+                self.agree("rearm", answer, 16, &[Part::LagSums])?;
+            }
+        }
+        Ok(())
+    }
+
+    fn keep(&mut self, parts: &[Part]) {
+        for part in parts {
+            self.world.part(*part).keep();
+        }
+    }
+
+    fn agree(&mut self, call: &str, got: u32, due: u32, parts: &[Part]) -> Result<(), String> {
+        if got != due {
+            return Err(format!("{call} answered {got}, not {due}"));
+        }
+        let w = &self.world;
+        let wrong = w
+            .word_differs(w.words_before(), &self.original)
+            .or_else(|| w.buffer_differs(&self.original, parts));
+        wrong.map_or(Ok(()), |what| Err(format!("{call}: {what}")))
+    }
+
+    /// Noise in loud and soft stretches.
+    fn far(&mut self, random: &mut Random, totals: &mut Totals) -> Result<(), String> {
+        let samples: Vec<f32> = (0..random.between(0, 3000))
+            .map(|_| {
+                if random.once_in(self.rate / 50) {
+                    self.loud = !self.loud;
+                }
+                choices::sample(random) * if self.loud { 1.0 } else { 0.05 }
+            })
+            .collect();
+        self.world.samples = Lent::of(&samples);
+        self.keep(&[Part::State, Part::Envelope, Part::Samples]);
+        self.original.push_far(&samples);
+        self.played.extend(&samples);
+        let w = &mut self.world;
+        let answer = face::push_far(w.state.lent_mut(), w.envelope.lent_mut(), w.samples.lent());
+        totals.pushes += 1;
+        self.agree("far push", answer, 16, &[Part::Envelope])
+    }
+
+    fn near(&mut self, index: u64, totals: &mut Totals) -> Result<(), String> {
+        let heard = self.played.get((index - self.delay.min(index)) as usize);
+        let sample = heard.copied().unwrap_or(0.0) * 0.7;
+        let finished = self.original.finished();
+        let full = self.original.push_near(sample, index);
+        let w = &mut self.world;
+        let answer = face::push_near(w.state.lent_mut(), w.levels.lent_mut(), sample, index);
+        totals.pushes += 1;
+        if answer < 16 || (answer == 19) != full || (answer == 16) != finished {
+            return Err(format!("near push answered {answer}, the Rust {full}"));
+        }
+        if !full {
+            return Ok(());
+        }
+        self.keep(&OBSERVED);
+        self.agree("near push", answer, 19, &[Part::Levels])?;
+        self.original.observe();
+        totals.frames += 1;
+        let answer = observe(&mut self.world);
+        self.agree("observe", answer, answer.max(16), &OBSERVED)
+    }
+}

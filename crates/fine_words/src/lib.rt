@@ -1,0 +1,140 @@
+// A fine state, from the 13 words that a host lends and back. specs/Layout.antt says where each field stands.
+ghost use mathlib.Core.Path.{_≡_};
+ghost use lib.ListN.{length};
+use fine::Fine;
+use fine::Frames;
+use fine::Lengths;
+use fine::Position;
+use fine::Scans;
+use units::Samples;
+
+pub const WORDS: usize = 13;
+
+fn load_lengths(state: &[u64]) -> Lengths
+    requires { ⌜ length (now state) ≡ 13 ⌝ }
+{
+    Lengths {
+        span: words::half(state[0], 0),
+        transform: state[1],
+        frame: state[2],
+    }
+}
+
+// Whether each flag is 0 or 1, and the counts of frames are numbers of 32 bits.
+fn are_cases(state: &[u64]) -> bool
+    requires { ⌜ length (now state) ≡ 13 ⌝ }
+{
+    if state[5] >= 2 {
+        return false;
+    }
+    if state[6] >= 0x1_0000_0000 {
+        return false;
+    }
+    if state[7] >= 0x1_0000_0000 {
+        return false;
+    }
+    state[10] < 2
+}
+
+fn load_origin(state: &[u64]) -> Samples
+    requires { ⌜ length (now state) ≡ 13 ⌝ }
+{
+    if are_cases(state) {
+        return Samples(state[3]);
+    }
+    Samples(answers::LIMIT)
+}
+
+fn load_frames(state: &[u64]) -> Frames
+    requires { ⌜ length (now state) ≡ 13 ⌝ }
+{
+    Frames {
+        len: state[4],
+        retained: state[5] == 1,
+        taken: words::half(state[6], 0),
+        skipped: words::half(state[7], 0),
+    }
+}
+
+fn load_peak_at(state: &[u64]) -> Position
+    requires { ⌜ length (now state) ≡ 13 ⌝ }
+{
+    if state[10] == 0 {
+        return Position::Nothing;
+    }
+    Position::At(state[11])
+}
+
+fn load_scans(state: &[u64]) -> Scans
+    requires { ⌜ length (now state) ≡ 13 ⌝ }
+{
+    Scans {
+        count: state[8],
+        ratio: words::float(state[9]),
+        peak_at: load_peak_at(state),
+        origin: Samples(state[12]),
+    }
+}
+
+pub fn load(state: &[u64]) -> Fine
+    requires { ⌜ length (now state) ≡ 13 ⌝ }
+{
+    Fine {
+        lengths: load_lengths(state),
+        origin: load_origin(state),
+        frames: load_frames(state),
+        scans: load_scans(state),
+    }
+}
+
+fn peak_flag(peak_at: Position) -> u64 {
+    match peak_at {
+        Position::Nothing => 0,
+        Position::At(_) => 1,
+    }
+}
+
+// A position that is not there leaves what stood in its word.
+fn peak_word(old: u64, peak_at: Position) -> u64 {
+    match peak_at {
+        Position::Nothing => old,
+        Position::At(k) => k,
+    }
+}
+
+fn store(state: &mut [u64], fine: Fine)
+    requires { ⌜ length (now state) ≡ 13 ⌝ }
+{
+    let lengths = fine.lengths;
+    let origin = fine.origin;
+    let frames = fine.frames;
+    let scans = fine.scans;
+    let peak_at = scans.peak_at;
+    let last = scans.origin;
+    let stored = [
+        lengths.span as u64,
+        lengths.transform,
+        lengths.frame,
+        origin.0,
+        frames.len,
+        words::flag(frames.retained),
+        frames.taken as u64,
+        frames.skipped as u64,
+        scans.count,
+        words::pattern(state[9], scans.ratio),
+        peak_flag(peak_at),
+        peak_word(state[11], peak_at),
+        last.0,
+    ];
+    words::put(&stored, state);
+}
+
+// What a call leaves in the words: nothing new where it was refused.
+pub fn answer(state: &mut [u64], number: u32, fine: Fine)
+    requires { ⌜ length (now state) ≡ 13 ⌝ }
+{
+    if number < 16 {
+        return;
+    }
+    store(state, fine);
+}

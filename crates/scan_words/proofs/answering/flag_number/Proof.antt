@@ -1,0 +1,28 @@
+-- `scan_words::answering::flag_number` meets its contract.
+use Rattle.answers.proofs.Cases.{cases}
+use borrow.Author.Needs.{needs}
+use Rattle.scan_words.proofs.answering.flag_number.Statement.{statement}
+use Rattle.scan_words.proofs.answering.flag_number.Tie as tie
+
+enum-known-answer : tie.Need-enum-known-answer
+enum-known-answer c = search needs
+
+cast-result : tie.Need-cast-result
+cast-result c = search needs
+
+enum-known-answer-2 : tie.Need-enum-known-answer-2
+enum-known-answer-2 c = search needs
+
+returns : tie.Need-returns
+returns c = search needs
+
+returns-2 : tie.Need-returns-2
+returns-2 c = search (cases, c .before .before .answer2 .given .1)
+
+returns-3 : tie.Need-returns-3
+returns-3 c = search (cases, c .before .before .answer2 .given .1)
+
+pub flag-number-spec : {M : Type 1} → statement M
+flag-number-spec =
+    tie.close
+    (tie.spec enum-known-answer cast-result enum-known-answer-2 returns returns-2 returns-3)

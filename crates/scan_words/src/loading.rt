@@ -1,0 +1,123 @@
+// A scan's state, from its words.
+use coarse::Far;
+use coarse::Found;
+use coarse::Geometry;
+use coarse::Near;
+use coarse::Region;
+use coarse::Scan;
+use coarse::Verdict;
+use units::Samples;
+ghost use mathlib.Core.Path.{_≡_};
+ghost use lib.ListN.{length};
+ghost use Rattle.scan_words.specs.Layout.{loadedGeometry, loadedFar, loadedNear, loadedFound, areCases, loadedBanked, loadedVerdict, loaded};
+
+fn load_geometry(state: &[u64]) -> Geometry
+    requires { ⌜ length (now state) ≡ 24 ⌝ }
+    ensures { λ r. ⌜ r ≡ loadedGeometry (now (state .entry)) ⌝ }
+{
+    Geometry {
+        rate: words::half(state[0], 0),
+        ceiling: words::half(state[1], 0),
+        decimation: state[2],
+        bin_rate: state[3],
+        span: state[4],
+        frame: state[5],
+        ceiling_guard: state[6],
+        peak_guard: state[7],
+    }
+}
+
+fn load_far(state: &[u64]) -> Far
+    requires { ⌜ length (now state) ≡ 24 ⌝ }
+    ensures { λ r. ⌜ r ≡ loadedFar (now (state .entry)) ⌝ }
+{
+    Far {
+        next: state[8],
+        sum: words::float(state[9]),
+        count: state[10],
+        accepted: state[11],
+    }
+}
+
+fn load_near(state: &[u64]) -> Near
+    requires { ⌜ length (now state) ≡ 24 ⌝ }
+    ensures { λ r. ⌜ r ≡ loadedNear (now (state .entry)) ⌝ }
+{
+    Near {
+        len: state[12],
+        sum: words::float(state[13]),
+        count: state[14],
+        first: state[15],
+    }
+}
+
+fn load_found(state: &[u64]) -> Found
+    requires { ⌜ length (now state) ≡ 24 ⌝ }
+    ensures { λ r. ⌜ r ≡ loadedFound (now (state .entry)) ⌝ }
+{
+    if state[19] == 0 {
+        return Found::Nothing;
+    }
+    Found::At(Region {
+        delay: Samples(state[20]),
+        correlation: words::float(state[21]),
+    })
+}
+
+fn are_cases(state: &[u64]) -> bool
+    requires { ⌜ length (now state) ≡ 24 ⌝ }
+    ensures { λ r. ⌜ r ≡ areCases (now (state .entry)) ⌝ }
+{
+    if state[16] >= 0x1_0000_0000 {
+        return false;
+    }
+    if state[17] >= 0x1_0000_0000 {
+        return false;
+    }
+    if state[18] >= 0x1_0000_0000 {
+        return false;
+    }
+    if state[19] >= 2 {
+        return false;
+    }
+    if state[22] >= 2 {
+        return false;
+    }
+    state[23] < 2
+}
+
+fn load_banked(state: &[u64]) -> u32
+    requires { ⌜ length (now state) ≡ 24 ⌝ }
+    ensures { λ r. ⌜ r ≡ loadedBanked (now (state .entry)) ⌝ }
+{
+    if are_cases(state) {
+        return words::half(state[16], 4);
+    }
+    4
+}
+
+fn load_verdict(state: &[u64]) -> Verdict
+    requires { ⌜ length (now state) ≡ 24 ⌝ }
+    ensures { λ r. ⌜ r ≡ loadedVerdict (now (state .entry)) ⌝ }
+{
+    Verdict {
+        banked: load_banked(state),
+        frames: words::half(state[17], 0),
+        last: words::float32(words::half(state[18], 0)),
+        found: load_found(state),
+        beyond: state[22] == 1,
+        exhausted: state[23] == 1,
+    }
+}
+
+pub fn load(state: &[u64]) -> Scan
+    requires { ⌜ length (now state) ≡ 24 ⌝ }
+    ensures { λ r. ⌜ r ≡ loaded (now (state .entry)) ⌝ }
+{
+    Scan {
+        geometry: load_geometry(state),
+        far: load_far(state),
+        near: load_near(state),
+        verdict: load_verdict(state),
+    }
+}

@@ -1,0 +1,124 @@
+// A tracker's state, from the 14 words that a host lends and back. specs/Layout.antt says where each field stands.
+ghost use mathlib.Core.Path.{_≡_};
+ghost use lib.ListN.{length};
+use tracker::Bands;
+use tracker::Delay;
+use tracker::Tracker;
+use units::Samples;
+
+pub const WORDS: usize = 14;
+
+fn load_bands(state: &[u64]) -> Bands
+    requires { ⌜ length (now state) ≡ 14 ⌝ }
+{
+    Bands {
+        late: state[1],
+        early: state[2],
+        agree: state[3],
+        apart: state[4],
+        lead: state[5],
+    }
+}
+
+fn load_delay(flag: u64, delay: u64) -> Delay {
+    if flag == 0 {
+        return Delay::Nothing;
+    }
+    Delay::At(Samples(delay))
+}
+
+// Whether each flag is 0 or 1, and each run a number of 32 bits.
+fn are_cases(state: &[u64]) -> bool
+    requires { ⌜ length (now state) ≡ 14 ⌝ }
+{
+    if state[6] >= 2 {
+        return false;
+    }
+    if state[8] >= 2 {
+        return false;
+    }
+    if state[10] >= 0x1_0000_0000 {
+        return false;
+    }
+    if state[11] >= 0x1_0000_0000 {
+        return false;
+    }
+    if state[12] >= 0x1_0000_0000 {
+        return false;
+    }
+    state[13] < 2
+}
+
+fn load_pending(state: &[u64]) -> Delay
+    requires { ⌜ length (now state) ≡ 14 ⌝ }
+{
+    if are_cases(state) {
+        return load_delay(state[6], state[7]);
+    }
+    Delay::At(Samples(answers::LIMIT))
+}
+
+pub fn load(state: &[u64]) -> Tracker
+    requires { ⌜ length (now state) ≡ 14 ⌝ }
+{
+    Tracker {
+        rate: words::half(state[0], 0),
+        bands: load_bands(state),
+        pending: load_pending(state),
+        prev: load_delay(state[8], state[9]),
+        edges: words::half(state[10], 0),
+        jumps: words::half(state[11], 0),
+        unconfident: words::half(state[12], 0),
+        suspect: state[13] == 1,
+    }
+}
+
+fn delay_flag(delay: Delay) -> u64 {
+    match delay {
+        Delay::Nothing => 0,
+        Delay::At(_) => 1,
+    }
+}
+
+// A delay that is not there leaves what stood in its word.
+fn delay_word(old: u64, delay: Delay) -> u64 {
+    match delay {
+        Delay::Nothing => old,
+        Delay::At(d) => d.0,
+    }
+}
+
+fn store(state: &mut [u64], tracker: Tracker)
+    requires { ⌜ length (now state) ≡ 14 ⌝ }
+{
+    let bands = tracker.bands;
+    let pending = tracker.pending;
+    let prev = tracker.prev;
+    let stored = [
+        tracker.rate as u64,
+        bands.late,
+        bands.early,
+        bands.agree,
+        bands.apart,
+        bands.lead,
+        delay_flag(pending),
+        delay_word(state[7], pending),
+        delay_flag(prev),
+        delay_word(state[9], prev),
+        tracker.edges as u64,
+        tracker.jumps as u64,
+        tracker.unconfident as u64,
+        words::flag(tracker.suspect),
+    ];
+    words::put(&stored, state);
+}
+
+// What a call leaves in the words: nothing new where it was refused.
+pub fn answer(state: &mut [u64], number: u32, tracker: Tracker)
+    requires { ⌜ length (now state) ≡ 14 ⌝ }
+{
+    if number < 16 {
+        return;
+    }
+    store(state, tracker);
+}

@@ -1,0 +1,9 @@
+// The C face: the calls of the crates below on numbers and slices (a slice is a pointer and a length), for firmware and for hosts in other languages.
+// A state is lent as words; the crates scan_words, tracker_words and fine_words say where each field stands.
+// No call has a `requires`. Each answers a refusal's number, or 16 and more: the case of its answer. A refused call writes nothing.
+// A state or a list for values of another length than its layout's is refused with 2 before anything else is judged.
+pub mod fine_calls;
+pub mod float_calls;
+pub mod ring_calls;
+pub mod scan_calls;
+pub mod tracker_calls;

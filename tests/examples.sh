@@ -1,0 +1,38 @@
+#!/usr/bin/env bash
+# The archive that firmware links: proves and writes it, builds the programs of examples/ over it, runs them and compares what they print;
+# then, where the Rust original is at hand, holds the whole face beside it in a short run.
+set -eu
+cd "$(dirname "$0")/.."
+left_out() { echo "examples: left out, $1"; exit 0; }
+
+[ "$(uname -m)" = x86_64 ] || left_out "the archive is for x86-64 and this machine is $(uname -m)"
+mkdir -p target
+rt staticlib trimolaveg > target/staticlib.log 2>&1 || { tail -n 40 target/staticlib.log >&2; exit 1; }
+archive=target/staticlib/libtrimolaveg.a
+built=target/examples
+mkdir -p "$built"
+
+shown=
+try() { # a program's name
+  "$built/$1" | cmp - examples/expected || { echo "examples: $1 printed something else than examples/expected" >&2; exit 1; }
+  shown="$shown $1"
+}
+if command -v gcc >/dev/null 2>&1; then
+  gcc -std=c99 -O2 -Wall -Wextra -Wpedantic -Werror -Iinclude -o "$built/c" examples/c/scan.c "$archive"
+  try c
+else
+  echo "examples: the one in C is left out, gcc is not on the PATH"
+fi
+command -v rustc >/dev/null 2>&1 || { echo "examples: the one in Rust and the comparison are left out, rustc is not on the PATH"; exit 0; }
+rustc --edition 2021 -O -D warnings --crate-name example -C link-arg="$archive" -o "$built/rust" examples/rust/scan.rs
+try rust
+echo "examples:$shown printed what is expected"
+
+made=0
+compare/build face || made=$?
+[ "$made" != 3 ] || exit 0
+[ "$made" = 0 ] || exit "$made"
+target/compare/face short 1 > target/compare/short.log || { grep -v '^  ' target/compare/short.log >&2; exit 1; }
+tail -n 1 target/compare/short.log
+target/compare/face differences > target/compare/differences.log || { cat target/compare/differences.log >&2; exit 1; }
+tail -n 1 target/compare/differences.log
