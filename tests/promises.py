@@ -11,14 +11,14 @@ import sys
 ROOT = pathlib.Path(__file__).resolve().parent.parent
 CRATES = ROOT / "crates"
 # The crates whose calls a host makes.
-CALLED = ["floats", "ring", "tracker", "scan", "blocks", "scoring", "fine", "gates", "peaks", "lines", "recording", "replay", "trimolaveg"]
+CALLED = ["floats", "ring", "tracker", "scan", "blocks", "runs", "scoring", "fine", "gates", "peaks", "lines", "recording", "replay", "trimolaveg"]
 # Public only for the crates above them; a host calls none of these. Each is pinned by an equation in its contract all the same.
 INNER = {
     "scan": ["clearing.rt", "parts.rt", "restart.rt", "rules.rt"],
     "blocks": ["far.rt", "level.rt", "near.rt"],
     "scoring": ["refusal.rt", "window.rt"],
     "fine": ["of", "with_frames"],
-    "replay": ["events.rt", "words.rt"],
+    "replay": ["events.rt", "starting.rt", "words.rt"],
 }
 
 
