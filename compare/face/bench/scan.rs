@@ -107,9 +107,15 @@ pub fn far_push(count: usize) {
             assert_eq!(answer, 16);
             time
         },
-        || nanoseconds(|| original.push_far(black_box(&samples))),
+        || nanoseconds(|| rust_push_far(&mut original, black_box(&samples))),
     );
     times.row(&format!("far push of {count} samples, a push"), 1);
+}
+
+/// A function of its own, so that what it is compiled to does not hang on the benchmark around it.
+#[inline(never)]
+fn rust_push_far(scan: &mut CoarseScan, samples: &[f32]) {
+    scan.push_far(samples);
 }
 
 pub fn near_push() {

@@ -1,3 +1,5 @@
--- Laws that the proofs share.
+-- Laws that the proofs share, what callers cite, and what the layout comes to.
 mod Values
 mod Lengths
+pub mod Chosen
+pub mod LoadAfterStore

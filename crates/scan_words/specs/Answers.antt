@@ -14,10 +14,13 @@ use Rattle.coarse.specs.declared.Frame.{Frame}
 use Rattle.coarse.specs.declared.Frame.the-variants as frame
 use Rattle.coarse.specs.declared.Change.{Change}
 use Rattle.coarse.specs.declared.Change.the-variants as change
+use Rattle.coarse.specs.declared.Changed.{Changed}
 use Rattle.coarse.specs.declared.Taking.{Taking}
 use Rattle.coarse.specs.declared.Taking.the-variants as taking
+use Rattle.coarse.specs.declared.Took.{Took}
 use Rattle.coarse.specs.declared.Scoring.{Scoring}
 use Rattle.coarse.specs.declared.Scoring.the-variants as scoring
+use Rattle.coarse.specs.declared.Scored.{Scored}
 use Rattle.coarse.specs.declared.RegionReport.{RegionReport}
 use Rattle.coarse.specs.declared.RegionReport.the-variants as region
 use Rattle.coarse.specs.declared.FlagReport.{FlagReport}
@@ -28,14 +31,15 @@ use Rattle.coarse.specs.declared.LevelReport.{LevelReport}
 use Rattle.coarse.specs.declared.LevelReport.the-variants as level
 use Rattle.coarse.specs.declared.SamplesReport.{SamplesReport}
 use Rattle.coarse.specs.declared.SamplesReport.the-variants as samples
+use Rattle.scan_words.specs.Layout.{answered}
 
 -- ---- numbers
 
-abbrev pub changeNumber : Change → ℕ
+unfoldable pub changeNumber : Change → ℕ
 changeNumber (change.Refused n) = n
 changeNumber change.Done = 16
 
-abbrev pub takingNumber : Taking → ℕ
+unfoldable pub takingNumber : Taking → ℕ
 takingNumber (taking.Refused n) = n
 takingNumber taking.Ignored = 16
 takingNumber taking.Dropped = 17
@@ -43,31 +47,31 @@ takingNumber taking.Taken = 18
 takingNumber taking.Full = 19
 
 -- a frame: 16 uncovered to 24 region
-abbrev pub scoringNumber : Scoring → ℕ
+unfoldable pub scoringNumber : Scoring → ℕ
 scoringNumber (scoring.Refused n) = n
 scoringNumber (scoring.Frame f) = 15 + frameNumber f
 
-abbrev pub foundNumber : Found → ℕ
+unfoldable pub foundNumber : Found → ℕ
 foundNumber Nothing = 16
 foundNumber (At r) = 17
 
-abbrev pub regionNumber : RegionReport → ℕ
+unfoldable pub regionNumber : RegionReport → ℕ
 regionNumber (region.Refused n) = n
 regionNumber (region.Is f) = foundNumber f
 
-abbrev pub flagNumber : FlagReport → ℕ
+unfoldable pub flagNumber : FlagReport → ℕ
 flagNumber (flag.Refused n) = n
 flagNumber (flag.Is b) = pick b 17 16
 
-abbrev pub countNumber : CountReport → ℕ
+unfoldable pub countNumber : CountReport → ℕ
 countNumber (count.Refused n) = n
 countNumber (count.Is n) = 16
 
-abbrev pub levelNumber : LevelReport → ℕ
+unfoldable pub levelNumber : LevelReport → ℕ
 levelNumber (level.Refused n) = n
 levelNumber (level.Is x) = 16
 
-abbrev pub samplesNumber : SamplesReport → ℕ
+unfoldable pub samplesNumber : SamplesReport → ℕ
 samplesNumber (samples.Refused n) = n
 samplesNumber (samples.Is s) = 16
 
@@ -78,7 +82,7 @@ abbrev pub placed : List ℕ → Region → List ℕ
 placed vs r = set (set vs 0 (r .delay .0)) 1 (toBits binary64 (r .correlation))
 
 -- a banked frame: its peak
-abbrev pub frameValuesIn : List ℕ → Frame → List ℕ
+unfoldable pub frameValuesIn : List ℕ → Frame → List ℕ
 frameValuesIn vs frame.Uncovered = vs
 frameValuesIn vs frame.Ahead = vs
 frameValuesIn vs frame.Quiet = vs
@@ -89,26 +93,37 @@ frameValuesIn vs frame.Ceiling = vs
 frameValuesIn vs frame.Crowded = vs
 frameValuesIn vs (frame.Region r) = placed vs r
 
-abbrev pub scoringValues : List ℕ → Scoring → List ℕ
+unfoldable pub scoringValues : List ℕ → Scoring → List ℕ
 scoringValues vs (scoring.Refused n) = vs
 scoringValues vs (scoring.Frame f) = frameValuesIn vs f
 
-abbrev pub foundValues : List ℕ → Found → List ℕ
+unfoldable pub foundValues : List ℕ → Found → List ℕ
 foundValues vs Nothing = vs
 foundValues vs (At r) = placed vs r
 
-abbrev pub regionValues : List ℕ → RegionReport → List ℕ
+unfoldable pub regionValues : List ℕ → RegionReport → List ℕ
 regionValues vs (region.Refused n) = vs
 regionValues vs (region.Is f) = foundValues vs f
 
-abbrev pub countValues : List ℕ → CountReport → List ℕ
+unfoldable pub countValues : List ℕ → CountReport → List ℕ
 countValues vs (count.Refused n) = vs
 countValues vs (count.Is n) = set vs 0 n
 
-abbrev pub levelValues : List ℕ → LevelReport → List ℕ
+unfoldable pub levelValues : List ℕ → LevelReport → List ℕ
 levelValues vs (level.Refused n) = vs
 levelValues vs (level.Is x) = set vs 0 (toBits binary32 x)
 
-abbrev pub samplesValues : List ℕ → SamplesReport → List ℕ
+unfoldable pub samplesValues : List ℕ → SamplesReport → List ℕ
 samplesValues vs (samples.Refused n) = vs
 samplesValues vs (samples.Is s) = set vs 0 (s .0)
+
+-- ---- what a call leaves in the words of the state
+
+abbrev pub changedWords : List ℕ → Changed → List ℕ
+changedWords ws c = answered ws (changeNumber (c .answer)) (c .scan)
+
+abbrev pub tookWords : List ℕ → Took → List ℕ
+tookWords ws t = answered ws (takingNumber (t .answer)) (t .scan)
+
+abbrev pub scoredWords : List ℕ → Scored → List ℕ
+scoredWords ws s = answered ws (scoringNumber (s .answer)) (s .scan)

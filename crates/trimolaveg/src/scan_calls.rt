@@ -2,18 +2,31 @@
 use scan_words::answering;
 use scan_words::loading;
 use scan_words::storing;
+ghost use mathlib.Core.Path.{_≡_};
+ghost use Rattle.answers.specs.Pick.{pick, both};
+ghost use Rattle.answers.specs.Refusals.{wrongLength};
+ghost use Rattle.words.specs.Words.{fits};
+ghost use Rattle.coarse.specs.Bins.{fullSlack, inTable, geometryOf, envelopeLen, nearLen, windowLen, prefixLen, lags};
+ghost use Rattle.coarse.specs.Calls.{made, wasReset, rearmed, discarded, pushedFar, pushedNear, observed, binSamples, ceilingSamples, framesOf, correlationOf, regionOf, beyondCeiling, isFinished, isExhausted};
+ghost use Rattle.scoring.specs.Observing.{lent, world};
+ghost use Rattle.scan_words.specs.Layout.{loaded};
+ghost use Rattle.scan_words.specs.Answers.{changeNumber, takingNumber, scoringNumber, samplesNumber, countNumber, levelNumber, regionNumber, flagNumber, samplesValues, countValues, levelValues, regionValues, scoringValues, changedWords, tookWords, scoredWords};
 
 // ---- lengths
 
 // How many words a scan's state has.
 #[no_mangle]
-pub extern "C" fn tmv_scan_words() -> u64 {
+pub extern "C" fn tmv_scan_words() -> u64
+    ensures { λ r. ⌜ r ≡ 24 ⌝ }
+{
     24
 }
 
 // The far envelope's length; 0 where rate or ceiling is outside the table, as of the lengths below.
 #[no_mangle]
-pub extern "C" fn tmv_scan_envelope_len(rate: u32, ceiling: u32) -> u64 {
+pub extern "C" fn tmv_scan_envelope_len(rate: u32, ceiling: u32) -> u64
+    ensures { λ r. ⌜ r ≡ pick (inTable rate ceiling) (envelopeLen fullSlack (geometryOf rate ceiling)) 0 ⌝ }
+{
     if scan::rules::in_table(rate, ceiling) {
         return scan::rules::envelope_len(scan::SLACK, scan::rules::geometry_of(rate, ceiling));
     }
@@ -22,7 +35,9 @@ pub extern "C" fn tmv_scan_envelope_len(rate: u32, ceiling: u32) -> u64 {
 
 // The near levels' length.
 #[no_mangle]
-pub extern "C" fn tmv_scan_levels_len(rate: u32, ceiling: u32) -> u64 {
+pub extern "C" fn tmv_scan_levels_len(rate: u32, ceiling: u32) -> u64
+    ensures { λ r. ⌜ r ≡ pick (inTable rate ceiling) (nearLen (geometryOf rate ceiling)) 0 ⌝ }
+{
     if scan::rules::in_table(rate, ceiling) {
         return scan::rules::geometry_of(rate, ceiling).frame;
     }
@@ -31,7 +46,9 @@ pub extern "C" fn tmv_scan_levels_len(rate: u32, ceiling: u32) -> u64 {
 
 // The window's length.
 #[no_mangle]
-pub extern "C" fn tmv_scan_window_len(rate: u32, ceiling: u32) -> u64 {
+pub extern "C" fn tmv_scan_window_len(rate: u32, ceiling: u32) -> u64
+    ensures { λ r. ⌜ r ≡ pick (inTable rate ceiling) (windowLen (geometryOf rate ceiling)) 0 ⌝ }
+{
     if scan::rules::in_table(rate, ceiling) {
         let g = scan::rules::geometry_of(rate, ceiling);
         return g.frame + g.span;
@@ -41,7 +58,9 @@ pub extern "C" fn tmv_scan_window_len(rate: u32, ceiling: u32) -> u64 {
 
 // The length of each of the two prefix buffers.
 #[no_mangle]
-pub extern "C" fn tmv_scan_prefix_len(rate: u32, ceiling: u32) -> u64 {
+pub extern "C" fn tmv_scan_prefix_len(rate: u32, ceiling: u32) -> u64
+    ensures { λ r. ⌜ r ≡ pick (inTable rate ceiling) (prefixLen (geometryOf rate ceiling)) 0 ⌝ }
+{
     if scan::rules::in_table(rate, ceiling) {
         let g = scan::rules::geometry_of(rate, ceiling);
         return g.frame + g.span + 1;
@@ -51,7 +70,9 @@ pub extern "C" fn tmv_scan_prefix_len(rate: u32, ceiling: u32) -> u64 {
 
 // The length of the scores and of the lag sums.
 #[no_mangle]
-pub extern "C" fn tmv_scan_lags_len(rate: u32, ceiling: u32) -> u64 {
+pub extern "C" fn tmv_scan_lags_len(rate: u32, ceiling: u32) -> u64
+    ensures { λ r. ⌜ r ≡ pick (inTable rate ceiling) (lags (geometryOf rate ceiling)) 0 ⌝ }
+{
     if scan::rules::in_table(rate, ceiling) {
         return scan::rules::lags(scan::rules::geometry_of(rate, ceiling));
     }
@@ -68,7 +89,12 @@ pub extern "C" fn tmv_scan_new(
     lag_sums: &mut [f64],
     rate: u32,
     ceiling: u32,
-) -> u32 {
+) -> u32
+    ensures answer { λ r. ⌜ r ≡ pick (fits 24 (now (state .entry))) (changeNumber (made fullSlack rate ceiling (now (envelope .entry)) (now («lag_sums» .entry)) .changed .answer)) wrongLength ⌝ }
+    ensures state { λ r. ⌜ now (state .exit) ≡ pick (fits 24 (now (state .entry))) (changedWords (now (state .entry)) (made fullSlack rate ceiling (now (envelope .entry)) (now («lag_sums» .entry)) .changed)) (now (state .entry)) ⌝ }
+    ensures envelope { λ r. ⌜ now (envelope .exit) ≡ pick (fits 24 (now (state .entry))) (made fullSlack rate ceiling (now (envelope .entry)) (now («lag_sums» .entry)) .envelope) (now (envelope .entry)) ⌝ }
+    ensures sums { λ r. ⌜ now («lag_sums» .exit) ≡ pick (fits 24 (now (state .entry))) (made fullSlack rate ceiling (now (envelope .entry)) (now («lag_sums» .entry)) .lagSums) (now («lag_sums» .entry)) ⌝ }
+{
     if state.len() != scan_words::WORDS {
         return answers::WRONG_LENGTH as u32;
     }
@@ -86,7 +112,12 @@ pub extern "C" fn tmv_scan_reset(
     state: &mut [u64],
     envelope: &mut [f32],
     lag_sums: &mut [f64],
-) -> u32 {
+) -> u32
+    ensures answer { λ r. ⌜ r ≡ pick (fits 24 (now (state .entry))) (changeNumber (wasReset fullSlack (loaded (now (state .entry))) (now (envelope .entry)) (now («lag_sums» .entry)) .changed .answer)) wrongLength ⌝ }
+    ensures state { λ r. ⌜ now (state .exit) ≡ pick (fits 24 (now (state .entry))) (changedWords (now (state .entry)) (wasReset fullSlack (loaded (now (state .entry))) (now (envelope .entry)) (now («lag_sums» .entry)) .changed)) (now (state .entry)) ⌝ }
+    ensures envelope { λ r. ⌜ now (envelope .exit) ≡ pick (fits 24 (now (state .entry))) (wasReset fullSlack (loaded (now (state .entry))) (now (envelope .entry)) (now («lag_sums» .entry)) .envelope) (now (envelope .entry)) ⌝ }
+    ensures sums { λ r. ⌜ now («lag_sums» .exit) ≡ pick (fits 24 (now (state .entry))) (wasReset fullSlack (loaded (now (state .entry))) (now (envelope .entry)) (now («lag_sums» .entry)) .lagSums) (now («lag_sums» .entry)) ⌝ }
+{
     if state.len() != scan_words::WORDS {
         return answers::WRONG_LENGTH as u32;
     }
@@ -100,7 +131,11 @@ pub extern "C" fn tmv_scan_reset(
 
 // The search begins anew, on the far history as it stands.
 #[no_mangle]
-pub extern "C" fn tmv_scan_rearm(state: &mut [u64], lag_sums: &mut [f64]) -> u32 {
+pub extern "C" fn tmv_scan_rearm(state: &mut [u64], lag_sums: &mut [f64]) -> u32
+    ensures answer { λ r. ⌜ r ≡ pick (fits 24 (now (state .entry))) (changeNumber (rearmed (loaded (now (state .entry))) (now («lag_sums» .entry)) .changed .answer)) wrongLength ⌝ }
+    ensures state { λ r. ⌜ now (state .exit) ≡ pick (fits 24 (now (state .entry))) (changedWords (now (state .entry)) (rearmed (loaded (now (state .entry))) (now («lag_sums» .entry)) .changed)) (now (state .entry)) ⌝ }
+    ensures sums { λ r. ⌜ now («lag_sums» .exit) ≡ pick (fits 24 (now (state .entry))) (rearmed (loaded (now (state .entry))) (now («lag_sums» .entry)) .lagSums) (now («lag_sums» .entry)) ⌝ }
+{
     if state.len() != scan_words::WORDS {
         return answers::WRONG_LENGTH as u32;
     }
@@ -114,7 +149,11 @@ pub extern "C" fn tmv_scan_rearm(state: &mut [u64], lag_sums: &mut [f64]) -> u32
 
 // The near frame under way is dropped, and the frames banked.
 #[no_mangle]
-pub extern "C" fn tmv_scan_discard_near(state: &mut [u64], lag_sums: &mut [f64]) -> u32 {
+pub extern "C" fn tmv_scan_discard_near(state: &mut [u64], lag_sums: &mut [f64]) -> u32
+    ensures answer { λ r. ⌜ r ≡ pick (fits 24 (now (state .entry))) (changeNumber (discarded (loaded (now (state .entry))) (now («lag_sums» .entry)) .changed .answer)) wrongLength ⌝ }
+    ensures state { λ r. ⌜ now (state .exit) ≡ pick (fits 24 (now (state .entry))) (changedWords (now (state .entry)) (discarded (loaded (now (state .entry))) (now («lag_sums» .entry)) .changed)) (now (state .entry)) ⌝ }
+    ensures sums { λ r. ⌜ now («lag_sums» .exit) ≡ pick (fits 24 (now (state .entry))) (discarded (loaded (now (state .entry))) (now («lag_sums» .entry)) .lagSums) (now («lag_sums» .entry)) ⌝ }
+{
     if state.len() != scan_words::WORDS {
         return answers::WRONG_LENGTH as u32;
     }
@@ -128,11 +167,11 @@ pub extern "C" fn tmv_scan_discard_near(state: &mut [u64], lag_sums: &mut [f64])
 
 // Far samples, in played order.
 #[no_mangle]
-pub extern "C" fn tmv_scan_push_far(
-    state: &mut [u64],
-    envelope: &mut [f32],
-    samples: &[f32],
-) -> u32 {
+pub extern "C" fn tmv_scan_push_far(state: &mut [u64], envelope: &mut [f32], samples: &[f32]) -> u32
+    ensures answer { λ r. ⌜ r ≡ pick (fits 24 (now (state .entry))) (changeNumber (pushedFar fullSlack (loaded (now (state .entry))) (now (envelope .entry)) (now (samples .entry)) .changed .answer)) wrongLength ⌝ }
+    ensures state { λ r. ⌜ now (state .exit) ≡ pick (fits 24 (now (state .entry))) (changedWords (now (state .entry)) (pushedFar fullSlack (loaded (now (state .entry))) (now (envelope .entry)) (now (samples .entry)) .changed)) (now (state .entry)) ⌝ }
+    ensures envelope { λ r. ⌜ now (envelope .exit) ≡ pick (fits 24 (now (state .entry))) (pushedFar fullSlack (loaded (now (state .entry))) (now (envelope .entry)) (now (samples .entry)) .envelope) (now (envelope .entry)) ⌝ }
+{
     if state.len() != scan_words::WORDS {
         return answers::WRONG_LENGTH as u32;
     }
@@ -151,7 +190,11 @@ pub extern "C" fn tmv_scan_push_near(
     levels: &mut [f32],
     sample: f32,
     index: u64,
-) -> u32 {
+) -> u32
+    ensures answer { λ r. ⌜ r ≡ pick (fits 24 (now (state .entry))) (takingNumber (pushedNear (loaded (now (state .entry))) (now (levels .entry)) sample index .took .answer)) wrongLength ⌝ }
+    ensures state { λ r. ⌜ now (state .exit) ≡ pick (fits 24 (now (state .entry))) (tookWords (now (state .entry)) (pushedNear (loaded (now (state .entry))) (now (levels .entry)) sample index .took)) (now (state .entry)) ⌝ }
+    ensures levels { λ r. ⌜ now (levels .exit) ≡ pick (fits 24 (now (state .entry))) (pushedNear (loaded (now (state .entry))) (now (levels .entry)) sample index .levels) (now (levels .entry)) ⌝ }
+{
     if state.len() != scan_words::WORDS {
         return answers::WRONG_LENGTH as u32;
     }
@@ -175,11 +218,16 @@ pub extern "C" fn tmv_scan_observe(
     scores: &mut [f64],
     lag_sums: &mut [f64],
     values: &mut [u64],
-) -> u32 {
+) -> u32
+    ensures answer { λ r. ⌜ r ≡ pick (both (fits 24 (now (state .entry))) (fits 2 (now (values .entry)))) (scoringNumber (observed fullSlack (world (loaded (now (state .entry))) (lent (now (envelope .entry)) (now (levels .entry)) (now (window .entry)) (now (prefix .entry)) (now (squares .entry)) (now (scores .entry)) (now («lag_sums» .entry)))) .scored .answer)) wrongLength ⌝ }
+    ensures state { λ r. ⌜ now (state .exit) ≡ pick (both (fits 24 (now (state .entry))) (fits 2 (now (values .entry)))) (scoredWords (now (state .entry)) (observed fullSlack (world (loaded (now (state .entry))) (lent (now (envelope .entry)) (now (levels .entry)) (now (window .entry)) (now (prefix .entry)) (now (squares .entry)) (now (scores .entry)) (now («lag_sums» .entry)))) .scored)) (now (state .entry)) ⌝ }
+    ensures buffers { λ r. ⌜ lent (now (envelope .entry)) (now (levels .entry)) (now (window .exit)) (now (prefix .exit)) (now (squares .exit)) (now (scores .exit)) (now («lag_sums» .exit)) ≡ pick (both (fits 24 (now (state .entry))) (fits 2 (now (values .entry)))) (observed fullSlack (world (loaded (now (state .entry))) (lent (now (envelope .entry)) (now (levels .entry)) (now (window .entry)) (now (prefix .entry)) (now (squares .entry)) (now (scores .entry)) (now («lag_sums» .entry)))) .buffers) (lent (now (envelope .entry)) (now (levels .entry)) (now (window .entry)) (now (prefix .entry)) (now (squares .entry)) (now (scores .entry)) (now («lag_sums» .entry))) ⌝ }
+    ensures values { λ r. ⌜ now (values .exit) ≡ pick (both (fits 24 (now (state .entry))) (fits 2 (now (values .entry)))) (scoringValues (now (values .entry)) (observed fullSlack (world (loaded (now (state .entry))) (lent (now (envelope .entry)) (now (levels .entry)) (now (window .entry)) (now (prefix .entry)) (now (squares .entry)) (now (scores .entry)) (now («lag_sums» .entry)))) .scored .answer)) (now (values .entry)) ⌝ }
+{
     if state.len() != scan_words::WORDS {
         return answers::WRONG_LENGTH as u32;
     }
-    if values.len() != 2 {
+    if values.len() != scan_words::FRAME_VALUES {
         return answers::WRONG_LENGTH as u32;
     }
     let scored = scoring::observe(
@@ -204,7 +252,10 @@ pub extern "C" fn tmv_scan_observe(
 
 // One bin in native samples.
 #[no_mangle]
-pub extern "C" fn tmv_scan_bin_samples(state: &[u64], values: &mut [u64]) -> u32 {
+pub extern "C" fn tmv_scan_bin_samples(state: &[u64], values: &mut [u64]) -> u32
+    ensures answer { λ r. ⌜ r ≡ pick (both (fits 24 (now (state .entry))) (fits 1 (now (values .entry)))) (samplesNumber (binSamples (loaded (now (state .entry))))) wrongLength ⌝ }
+    ensures values { λ r. ⌜ now (values .exit) ≡ pick (both (fits 24 (now (state .entry))) (fits 1 (now (values .entry)))) (samplesValues (now (values .entry)) (binSamples (loaded (now (state .entry))))) (now (values .entry)) ⌝ }
+{
     if state.len() != scan_words::WORDS {
         return answers::WRONG_LENGTH as u32;
     }
@@ -217,7 +268,10 @@ pub extern "C" fn tmv_scan_bin_samples(state: &[u64], values: &mut [u64]) -> u32
 
 // The ceiling in native samples.
 #[no_mangle]
-pub extern "C" fn tmv_scan_ceiling_samples(state: &[u64], values: &mut [u64]) -> u32 {
+pub extern "C" fn tmv_scan_ceiling_samples(state: &[u64], values: &mut [u64]) -> u32
+    ensures answer { λ r. ⌜ r ≡ pick (both (fits 24 (now (state .entry))) (fits 1 (now (values .entry)))) (samplesNumber (ceilingSamples (loaded (now (state .entry))))) wrongLength ⌝ }
+    ensures values { λ r. ⌜ now (values .exit) ≡ pick (both (fits 24 (now (state .entry))) (fits 1 (now (values .entry)))) (samplesValues (now (values .entry)) (ceilingSamples (loaded (now (state .entry))))) (now (values .entry)) ⌝ }
+{
     if state.len() != scan_words::WORDS {
         return answers::WRONG_LENGTH as u32;
     }
@@ -230,7 +284,10 @@ pub extern "C" fn tmv_scan_ceiling_samples(state: &[u64], values: &mut [u64]) ->
 
 // The frames counted.
 #[no_mangle]
-pub extern "C" fn tmv_scan_frames(state: &[u64], values: &mut [u64]) -> u32 {
+pub extern "C" fn tmv_scan_frames(state: &[u64], values: &mut [u64]) -> u32
+    ensures answer { λ r. ⌜ r ≡ pick (both (fits 24 (now (state .entry))) (fits 1 (now (values .entry)))) (countNumber (framesOf (loaded (now (state .entry))))) wrongLength ⌝ }
+    ensures values { λ r. ⌜ now (values .exit) ≡ pick (both (fits 24 (now (state .entry))) (fits 1 (now (values .entry)))) (countValues (now (values .entry)) (framesOf (loaded (now (state .entry))))) (now (values .entry)) ⌝ }
+{
     if state.len() != scan_words::WORDS {
         return answers::WRONG_LENGTH as u32;
     }
@@ -243,7 +300,10 @@ pub extern "C" fn tmv_scan_frames(state: &[u64], values: &mut [u64]) -> u32 {
 
 // The region's averaged correlation as f32, and before there is one the last frame's peak.
 #[no_mangle]
-pub extern "C" fn tmv_scan_correlation(state: &[u64], values: &mut [u64]) -> u32 {
+pub extern "C" fn tmv_scan_correlation(state: &[u64], values: &mut [u64]) -> u32
+    ensures answer { λ r. ⌜ r ≡ pick (both (fits 24 (now (state .entry))) (fits 1 (now (values .entry)))) (levelNumber (correlationOf (loaded (now (state .entry))))) wrongLength ⌝ }
+    ensures values { λ r. ⌜ now (values .exit) ≡ pick (both (fits 24 (now (state .entry))) (fits 1 (now (values .entry)))) (levelValues (now (values .entry)) (correlationOf (loaded (now (state .entry))))) (now (values .entry)) ⌝ }
+{
     if state.len() != scan_words::WORDS {
         return answers::WRONG_LENGTH as u32;
     }
@@ -256,11 +316,14 @@ pub extern "C" fn tmv_scan_correlation(state: &[u64], values: &mut [u64]) -> u32
 
 // The region: 16 none, 17 one (delay, correlation as f64).
 #[no_mangle]
-pub extern "C" fn tmv_scan_region(state: &[u64], values: &mut [u64]) -> u32 {
+pub extern "C" fn tmv_scan_region(state: &[u64], values: &mut [u64]) -> u32
+    ensures answer { λ r. ⌜ r ≡ pick (both (fits 24 (now (state .entry))) (fits 2 (now (values .entry)))) (regionNumber (regionOf (loaded (now (state .entry))))) wrongLength ⌝ }
+    ensures values { λ r. ⌜ now (values .exit) ≡ pick (both (fits 24 (now (state .entry))) (fits 2 (now (values .entry)))) (regionValues (now (values .entry)) (regionOf (loaded (now (state .entry))))) (now (values .entry)) ⌝ }
+{
     if state.len() != scan_words::WORDS {
         return answers::WRONG_LENGTH as u32;
     }
-    if values.len() != 2 {
+    if values.len() != scan_words::REGION_VALUES {
         return answers::WRONG_LENGTH as u32;
     }
     let report = scan::reports::region(loading::load(state));
@@ -269,7 +332,9 @@ pub extern "C" fn tmv_scan_region(state: &[u64], values: &mut [u64]) -> u32 {
 
 // Whether a peak stood at the ceiling: 16 no, 17 yes, as of the flags below.
 #[no_mangle]
-pub extern "C" fn tmv_scan_beyond_ceiling(state: &[u64]) -> u32 {
+pub extern "C" fn tmv_scan_beyond_ceiling(state: &[u64]) -> u32
+    ensures { λ r. ⌜ r ≡ pick (fits 24 (now (state .entry))) (flagNumber (beyondCeiling (loaded (now (state .entry))))) wrongLength ⌝ }
+{
     if state.len() != scan_words::WORDS {
         return answers::WRONG_LENGTH as u32;
     }
@@ -279,7 +344,9 @@ pub extern "C" fn tmv_scan_beyond_ceiling(state: &[u64]) -> u32 {
 
 // Whether the scan found a region or gave up.
 #[no_mangle]
-pub extern "C" fn tmv_scan_finished(state: &[u64]) -> u32 {
+pub extern "C" fn tmv_scan_finished(state: &[u64]) -> u32
+    ensures { λ r. ⌜ r ≡ pick (fits 24 (now (state .entry))) (flagNumber (isFinished (loaded (now (state .entry))))) wrongLength ⌝ }
+{
     if state.len() != scan_words::WORDS {
         return answers::WRONG_LENGTH as u32;
     }
@@ -289,7 +356,9 @@ pub extern "C" fn tmv_scan_finished(state: &[u64]) -> u32 {
 
 // Whether the scan gave up.
 #[no_mangle]
-pub extern "C" fn tmv_scan_exhausted(state: &[u64]) -> u32 {
+pub extern "C" fn tmv_scan_exhausted(state: &[u64]) -> u32
+    ensures { λ r. ⌜ r ≡ pick (fits 24 (now (state .entry))) (flagNumber (isExhausted (loaded (now (state .entry))))) wrongLength ⌝ }
+{
     if state.len() != scan_words::WORDS {
         return answers::WRONG_LENGTH as u32;
     }

@@ -1,4 +1,5 @@
 -- `scan_words::answering::flag_number` meets its contract.
+use Rattle.scan_words.specs.Answers.{flagNumber}
 use Rattle.answers.proofs.Cases.{cases}
 use borrow.Author.Needs.{needs}
 use Rattle.scan_words.proofs.answering.flag_number.Statement.{statement}
@@ -14,12 +15,15 @@ enum-known-answer-2 : tie.Need-enum-known-answer-2
 enum-known-answer-2 c = search needs
 
 returns : tie.Need-returns
+unfolding flagNumber
 returns c = search needs
 
 returns-2 : tie.Need-returns-2
+unfolding flagNumber
 returns-2 c = search (cases, c .before .before .answer2 .given .1)
 
 returns-3 : tie.Need-returns-3
+unfolding flagNumber
 returns-3 c = search (cases, c .before .before .answer2 .given .1)
 
 pub flag-number-spec : {M : Type 1} → statement M

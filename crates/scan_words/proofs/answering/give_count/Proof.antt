@@ -1,4 +1,5 @@
 -- `scan_words::answering::give_count` meets its contract.
+use Rattle.scan_words.specs.Answers.{countNumber, countValues}
 use borrow.Author.Needs.{needs}
 use Rattle.scan_words.proofs.answering.give_count.Statement.{statement}
 use Rattle.scan_words.proofs.answering.give_count.Tie as tie
@@ -19,12 +20,14 @@ slice-write-values : tie.Need-slice-write-values
 slice-write-values c = search needs
 
 returns : tie.Need-returns
+unfolding countNumber countValues
 returns c = search needs
 
 same-length : tie.Need-same-length
 same-length c = search needs
 
 returns-2 : tie.Need-returns-2
+unfolding countNumber countValues
 returns-2 c = (cc, cc)
 
 pub give-count-spec : {M : Type 1} → statement M

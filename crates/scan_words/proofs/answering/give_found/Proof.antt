@@ -1,4 +1,5 @@
 -- `scan_words::answering::give_found` meets its contract.
+use Rattle.scan_words.specs.Answers.{foundNumber, foundValues}
 use borrow.Author.Needs.{needs}
 use Rattle.scan_words.proofs.answering.give_found.Statement.{statement}
 use Rattle.scan_words.proofs.answering.give_found.Tie as tie
@@ -14,12 +15,14 @@ place-requires : tie.Need-place-requires
 place-requires c κs = search needs
 
 returns : tie.Need-returns
+unfolding foundNumber foundValues
 returns c = search needs
 
 same-length : tie.Need-same-length
 same-length c = search needs
 
 returns-2 : tie.Need-returns-2
+unfolding foundNumber foundValues
 returns-2 c = (cc, cc)
 
 pub give-found-spec : {M : Type 1} → statement M

@@ -1,4 +1,5 @@
 -- `scan_words::answering::give_level` meets its contract.
+use Rattle.scan_words.specs.Answers.{levelNumber, levelValues}
 use lib.Ieee.{binary32}
 use Rattle.scan_words.proofs.Values.{alone}
 use borrow.Author.Needs.{needs}
@@ -25,12 +26,14 @@ slice-write-values : tie.Need-slice-write-values
 slice-write-values c = search needs
 
 returns : tie.Need-returns
+unfolding levelNumber levelValues
 returns c = search needs
 
 same-length : tie.Need-same-length
 same-length c = search needs
 
 returns-2 : tie.Need-returns-2
+unfolding levelNumber levelValues
 returns-2 c = (cc, rw (c .before .before .answer2 .given .1, c .pattern32 .ensures, alone binary32))
 
 pub give-level-spec : {M : Type 1} → statement M

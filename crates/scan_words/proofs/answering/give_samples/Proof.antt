@@ -1,4 +1,5 @@
 -- `scan_words::answering::give_samples` meets its contract.
+use Rattle.scan_words.specs.Answers.{samplesNumber, samplesValues}
 use borrow.Author.Needs.{needs}
 use Rattle.scan_words.proofs.answering.give_samples.Statement.{statement}
 use Rattle.scan_words.proofs.answering.give_samples.Tie as tie
@@ -16,12 +17,14 @@ slice-write-values : tie.Need-slice-write-values
 slice-write-values c = search needs
 
 returns : tie.Need-returns
+unfolding samplesNumber samplesValues
 returns c = search needs
 
 same-length : tie.Need-same-length
 same-length c = search needs
 
 returns-2 : tie.Need-returns-2
+unfolding samplesNumber samplesValues
 returns-2 c = (rw (c .before .answer2 .given .1), rw (c .before .answer2 .given .1))
 
 pub give-samples-spec : {M : Type 1} → statement M

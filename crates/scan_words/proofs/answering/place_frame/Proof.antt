@@ -1,4 +1,5 @@
 -- `scan_words::answering::place_frame` meets its contract.
+use Rattle.scan_words.specs.Answers.{frameValuesIn}
 use lib.Ieee.{binary32}
 use Rattle.scan_words.proofs.Values.{alone}
 use borrow.Author.Needs.{needs}
@@ -47,36 +48,45 @@ place-requires : tie.Need-place-requires
 place-requires c κs = search needs
 
 returns : tie.Need-returns
+unfolding frameValuesIn
 returns c = search needs
 
 returns-2 : tie.Need-returns-2
+unfolding frameValuesIn
 returns-2 c = search needs
 
 returns-3 : tie.Need-returns-3
+unfolding frameValuesIn
 returns-3 c = search needs
 
 returns-4 : tie.Need-returns-4
+unfolding frameValuesIn
 returns-4 c = search needs
 
 same-length : tie.Need-same-length
 same-length c = search needs
 
 returns-5 : tie.Need-returns-5
+unfolding frameValuesIn
 returns-5 c = rw (c .before .before .frame .given .1, c .pattern32 .ensures, alone binary32)
 
 returns-6 : tie.Need-returns-6
+unfolding frameValuesIn
 returns-6 c = search needs
 
 returns-7 : tie.Need-returns-7
+unfolding frameValuesIn
 returns-7 c = search needs
 
 returns-8 : tie.Need-returns-8
+unfolding frameValuesIn
 returns-8 c = search needs
 
 same-length-2 : tie.Need-same-length-2
 same-length-2 c = search needs
 
 returns-9 : tie.Need-returns-9
+unfolding frameValuesIn
 returns-9 c = cc
 
 pub place-frame-spec : {M : Type 1} → statement M

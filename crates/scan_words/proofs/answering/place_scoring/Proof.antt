@@ -1,4 +1,5 @@
 -- `scan_words::answering::place_scoring` meets its contract.
+use Rattle.scan_words.specs.Answers.{scoringValues}
 use borrow.Author.Needs.{needs}
 use Rattle.scan_words.proofs.answering.place_scoring.Statement.{statement}
 use Rattle.scan_words.proofs.answering.place_scoring.Tie as tie
@@ -14,12 +15,14 @@ place-frame-requires : tie.Need-place-frame-requires
 place-frame-requires c κs = search needs
 
 returns : tie.Need-returns
+unfolding scoringValues
 returns c = search needs
 
 same-length : tie.Need-same-length
 same-length c = search needs
 
 returns-2 : tie.Need-returns-2
+unfolding scoringValues
 returns-2 c = rw (c .before .before .before .before .before .answer .given .1) (c .before .before .place-frame .ensures)
 
 pub place-scoring-spec : {M : Type 1} → statement M

@@ -1,4 +1,5 @@
 -- `scan_words::answering::scoring_number` meets its contract.
+use Rattle.scan_words.specs.Answers.{scoringNumber}
 use borrow.Author.Needs.{needs}
 use Rattle.scan_words.proofs.answering.scoring_number.Statement.{statement}
 use Rattle.scan_words.proofs.answering.scoring_number.Tie as tie
@@ -17,9 +18,11 @@ frame-number-requires : tie.Need-frame-number-requires
 frame-number-requires c κs = search needs
 
 returns : tie.Need-returns
+unfolding scoringNumber
 returns c = search needs
 
 returns-2 : tie.Need-returns-2
+unfolding scoringNumber
 returns-2 c = cc
 
 pub scoring-number-spec : {M : Type 1} → statement M

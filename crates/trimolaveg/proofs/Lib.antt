@@ -1,0 +1,3 @@
+-- Laws that the proofs share, and what the contracts come to.
+mod ScanSeen
+pub mod ScanDetermined
