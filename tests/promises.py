@@ -77,11 +77,19 @@ def public_calls(crate):
                 yield match.group(1), path.relative_to(ROOT)
 
 
-def theorems(crate):
-    path = CRATES / crate / "proofs" / "Determined.antt"
-    if not path.exists():
-        return []
-    return re.findall(r"^pub ([\w-]+) :", path.read_text(), re.M)
+def theorems(crate, call, path):
+    """The theorems about a call: in Determined, or, for the C face, in the module of the call's part, without the prefix."""
+    part = path.stem.removesuffix("_calls")
+    modules = ["Determined.antt"] if part == path.stem else [part.capitalize() + "Determined.antt", "Determined.antt"]
+    plain = call.removeprefix("tmv_").removeprefix(part + "_")
+    for module in modules:
+        file = CRATES / crate / "proofs" / module
+        known = re.findall(r"^pub ([\w-]+) :", file.read_text(), re.M) if file.exists() else []
+        for name in (call.replace("_", "-"), plain.replace("_", "-")):
+            mine = [t for t in known if t == name + "-once" or t.startswith(name + "-") and t.endswith("-once")]
+            if name + "-once" in mine:
+                return mine
+    return []
 
 
 def determined(crates):
@@ -99,10 +107,8 @@ def determined(crates):
     for crate in CALLED:
         if crate not in crates:
             continue
-        known = theorems(crate)
         for call, path in public_calls(crate):
-            dashed = call.replace("_", "-")
-            mine = [t for t in known if t == dashed + "-once" or t.startswith(dashed + "-") and t.endswith("-once")]
+            mine = theorems(crate, call, path)
             if mine:
                 lines.append(f"| {crate}: `{call}` ({path.name}) | {', '.join('`' + t + '`' for t in mine)} |")
             else:
