@@ -28,7 +28,9 @@ ghost use lib.ListN.{length};
 ghost use Rattle.lines.specs.Steps.{Put};
 ghost use Rattle.lines.specs.declared.Line.the-variants as line;
 ghost use Rattle.replay.specs.Words.{changeLines, answerLines, cycleLine, cyclesAfter};
+ghost use Rattle.coarse.specs.Bins.{fullSlack};
 ghost use Rattle.coarse.specs.State.{Buffers};
+ghost use Rattle.coarse.specs.Calls.{pushedFar};
 ghost use Rattle.scoring.specs.Observing.{lent};
 ghost use Rattle.replay.specs.Events.{withScan, withFrame, withTracker, afterScore, scorePlayed, samplePlayed, nearPlayed, eventPlayed, withUsed, stepped};
 ghost use Rattle.replay.specs.Log.{logText};
@@ -358,6 +360,14 @@ fn near(
 
 // ---- any event
 
+// The samples of a far event are one push, so that one that is not finite refuses them all.
+fn push_whole(scan: Scan, envelope: &mut [f32], samples: &[f32]) -> Changed
+    ensures changed { λ r. ⌜ r ≡ pushedFar fullSlack scan (now (envelope .entry)) (now (samples .entry)) .changed ⌝ }
+    ensures envelope { λ r. ⌜ now (envelope .exit) ≡ pushedFar fullSlack scan (now (envelope .entry)) (now (samples .entry)) .envelope ⌝ }
+{
+    blocks::push_far(scan, envelope, samples)
+}
+
 fn with_used(session: Session, used: Used) -> Session
     ensures { λ r. ⌜ r ≡ withUsed session used ⌝ }
 {
@@ -404,7 +414,7 @@ fn play(
     let before = session.scan;
     match event {
         Event::Far { count: _ } => {
-            let change = blocks::push_far(before, envelope, samples);
+            let change = push_whole(before, envelope, samples);
             changed(number, session, change, out)
         }
         Event::Near { count: _, first } => {

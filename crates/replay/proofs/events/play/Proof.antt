@@ -8,8 +8,8 @@ use Rattle.replay.proofs.events.play.Tie as tie
 enum-told : tie.Need-enum-told
 enum-told c = search needs
 
-push-far-requires : tie.Need-push-far-requires
-push-far-requires c κs = search needs
+push-whole-requires : tie.Need-push-whole-requires
+push-whole-requires c κs = search needs
 
 changed-requires : tie.Need-changed-requires
 changed-requires c κs = search needs
@@ -79,7 +79,7 @@ same-length-2 c = search needs
 
 returns : tie.Need-returns
 unfolding eventPlayed
-returns c = rw (c .before .before .before .before .before .before .before .before .enum-told .given .1, ← c .before .before .before .before .before .before .push-far .ensures .0, ← c .before .before .before .before .before .before .push-far .ensures .1) (record { tells = c .before .before .changed .ensures; leaves = refl })
+returns c = rw (c .before .before .before .before .before .before .before .before .enum-told .given .1, ← c .before .before .before .before .before .before .push-whole .ensures .0, ← c .before .before .before .before .before .before .push-whole .ensures .1) (record { tells = c .before .before .changed .ensures; leaves = refl })
 
 same-length-3 : tie.Need-same-length-3
 same-length-3 c = search needs
@@ -164,7 +164,7 @@ play-spec =
     tie.close
     (tie.spec
     enum-told
-    push-far-requires
+    push-whole-requires
     changed-requires
     enum-known-event
     near-requires
