@@ -1,6 +1,7 @@
 // A fine state, from the 13 words that a host lends and back. specs/Layout.antt says where each field stands.
 ghost use mathlib.Core.Path.{_≡_};
 ghost use lib.ListN.{length};
+ghost use Rattle.fine_words.specs.Layout.{loadedLengths, areCases, loadedOrigin, loadedFrames, loadedPeakAt, loadedScans, loaded, peakFlag, peakWord, stored, answered};
 use fine::Fine;
 use fine::Frames;
 use fine::Lengths;
@@ -12,6 +13,7 @@ pub const WORDS: usize = 13;
 
 fn load_lengths(state: &[u64]) -> Lengths
     requires { ⌜ length (now state) ≡ 13 ⌝ }
+    ensures { λ r. ⌜ r ≡ loadedLengths (now (state .entry)) ⌝ }
 {
     Lengths {
         span: words::half(state[0], 0),
@@ -23,6 +25,7 @@ fn load_lengths(state: &[u64]) -> Lengths
 // Whether each flag is 0 or 1, and the counts of frames are numbers of 32 bits.
 fn are_cases(state: &[u64]) -> bool
     requires { ⌜ length (now state) ≡ 13 ⌝ }
+    ensures { λ r. ⌜ r ≡ areCases (now (state .entry)) ⌝ }
 {
     if state[5] >= 2 {
         return false;
@@ -38,6 +41,7 @@ fn are_cases(state: &[u64]) -> bool
 
 fn load_origin(state: &[u64]) -> Samples
     requires { ⌜ length (now state) ≡ 13 ⌝ }
+    ensures { λ r. ⌜ r ≡ loadedOrigin (now (state .entry)) ⌝ }
 {
     if are_cases(state) {
         return Samples(state[3]);
@@ -47,6 +51,7 @@ fn load_origin(state: &[u64]) -> Samples
 
 fn load_frames(state: &[u64]) -> Frames
     requires { ⌜ length (now state) ≡ 13 ⌝ }
+    ensures { λ r. ⌜ r ≡ loadedFrames (now (state .entry)) ⌝ }
 {
     Frames {
         len: state[4],
@@ -58,6 +63,7 @@ fn load_frames(state: &[u64]) -> Frames
 
 fn load_peak_at(state: &[u64]) -> Position
     requires { ⌜ length (now state) ≡ 13 ⌝ }
+    ensures { λ r. ⌜ r ≡ loadedPeakAt (now (state .entry)) ⌝ }
 {
     if state[10] == 0 {
         return Position::Nothing;
@@ -67,6 +73,7 @@ fn load_peak_at(state: &[u64]) -> Position
 
 fn load_scans(state: &[u64]) -> Scans
     requires { ⌜ length (now state) ≡ 13 ⌝ }
+    ensures { λ r. ⌜ r ≡ loadedScans (now (state .entry)) ⌝ }
 {
     Scans {
         count: state[8],
@@ -78,6 +85,7 @@ fn load_scans(state: &[u64]) -> Scans
 
 pub fn load(state: &[u64]) -> Fine
     requires { ⌜ length (now state) ≡ 13 ⌝ }
+    ensures { λ r. ⌜ r ≡ loaded (now (state .entry)) ⌝ }
 {
     Fine {
         lengths: load_lengths(state),
@@ -87,7 +95,9 @@ pub fn load(state: &[u64]) -> Fine
     }
 }
 
-fn peak_flag(peak_at: Position) -> u64 {
+fn peak_flag(peak_at: Position) -> u64
+    ensures { λ r. ⌜ r ≡ peakFlag «peak_at» ⌝ }
+{
     match peak_at {
         Position::Nothing => 0,
         Position::At(_) => 1,
@@ -95,7 +105,9 @@ fn peak_flag(peak_at: Position) -> u64 {
 }
 
 // A position that is not there leaves what stood in its word.
-fn peak_word(old: u64, peak_at: Position) -> u64 {
+fn peak_word(old: u64, peak_at: Position) -> u64
+    ensures { λ r. ⌜ r ≡ peakWord old «peak_at» ⌝ }
+{
     match peak_at {
         Position::Nothing => old,
         Position::At(k) => k,
@@ -104,6 +116,7 @@ fn peak_word(old: u64, peak_at: Position) -> u64 {
 
 fn store(state: &mut [u64], fine: Fine)
     requires { ⌜ length (now state) ≡ 13 ⌝ }
+    ensures { λ _. ⌜ now (state .exit) ≡ stored (now (state .entry)) fine ⌝ }
 {
     let lengths = fine.lengths;
     let origin = fine.origin;
@@ -132,6 +145,7 @@ fn store(state: &mut [u64], fine: Fine)
 // What a call leaves in the words: nothing new where it was refused.
 pub fn answer(state: &mut [u64], number: u32, fine: Fine)
     requires { ⌜ length (now state) ≡ 13 ⌝ }
+    ensures { λ _. ⌜ now (state .exit) ≡ answered (now (state .entry)) number fine ⌝ }
 {
     if number < 16 {
         return;

@@ -1,6 +1,7 @@
 // A tracker's state, from the 14 words that a host lends and back. specs/Layout.antt says where each field stands.
 ghost use mathlib.Core.Path.{_≡_};
 ghost use lib.ListN.{length};
+ghost use Rattle.tracker_words.specs.Layout.{loadedBands, loadedDelay, areCases, loadedPending, loaded, delayFlag, delayWord, stored, answered};
 use tracker::Bands;
 use tracker::Delay;
 use tracker::Tracker;
@@ -10,6 +11,7 @@ pub const WORDS: usize = 14;
 
 fn load_bands(state: &[u64]) -> Bands
     requires { ⌜ length (now state) ≡ 14 ⌝ }
+    ensures { λ r. ⌜ r ≡ loadedBands (now (state .entry)) ⌝ }
 {
     Bands {
         late: state[1],
@@ -20,7 +22,9 @@ fn load_bands(state: &[u64]) -> Bands
     }
 }
 
-fn load_delay(flag: u64, delay: u64) -> Delay {
+fn load_delay(flag: u64, delay: u64) -> Delay
+    ensures { λ r. ⌜ r ≡ loadedDelay flag delay ⌝ }
+{
     if flag == 0 {
         return Delay::Nothing;
     }
@@ -30,6 +34,7 @@ fn load_delay(flag: u64, delay: u64) -> Delay {
 // Whether each flag is 0 or 1, and each run a number of 32 bits.
 fn are_cases(state: &[u64]) -> bool
     requires { ⌜ length (now state) ≡ 14 ⌝ }
+    ensures { λ r. ⌜ r ≡ areCases (now (state .entry)) ⌝ }
 {
     if state[6] >= 2 {
         return false;
@@ -51,6 +56,7 @@ fn are_cases(state: &[u64]) -> bool
 
 fn load_pending(state: &[u64]) -> Delay
     requires { ⌜ length (now state) ≡ 14 ⌝ }
+    ensures { λ r. ⌜ r ≡ loadedPending (now (state .entry)) ⌝ }
 {
     if are_cases(state) {
         return load_delay(state[6], state[7]);
@@ -60,6 +66,7 @@ fn load_pending(state: &[u64]) -> Delay
 
 pub fn load(state: &[u64]) -> Tracker
     requires { ⌜ length (now state) ≡ 14 ⌝ }
+    ensures { λ r. ⌜ r ≡ loaded (now (state .entry)) ⌝ }
 {
     Tracker {
         rate: words::half(state[0], 0),
@@ -73,7 +80,9 @@ pub fn load(state: &[u64]) -> Tracker
     }
 }
 
-fn delay_flag(delay: Delay) -> u64 {
+fn delay_flag(delay: Delay) -> u64
+    ensures { λ r. ⌜ r ≡ delayFlag delay ⌝ }
+{
     match delay {
         Delay::Nothing => 0,
         Delay::At(_) => 1,
@@ -81,7 +90,9 @@ fn delay_flag(delay: Delay) -> u64 {
 }
 
 // A delay that is not there leaves what stood in its word.
-fn delay_word(old: u64, delay: Delay) -> u64 {
+fn delay_word(old: u64, delay: Delay) -> u64
+    ensures { λ r. ⌜ r ≡ delayWord old delay ⌝ }
+{
     match delay {
         Delay::Nothing => old,
         Delay::At(d) => d.0,
@@ -90,6 +101,7 @@ fn delay_word(old: u64, delay: Delay) -> u64 {
 
 fn store(state: &mut [u64], tracker: Tracker)
     requires { ⌜ length (now state) ≡ 14 ⌝ }
+    ensures { λ _. ⌜ now (state .exit) ≡ stored (now (state .entry)) tracker ⌝ }
 {
     let bands = tracker.bands;
     let pending = tracker.pending;
@@ -116,6 +128,7 @@ fn store(state: &mut [u64], tracker: Tracker)
 // What a call leaves in the words: nothing new where it was refused.
 pub fn answer(state: &mut [u64], number: u32, tracker: Tracker)
     requires { ⌜ length (now state) ≡ 14 ⌝ }
+    ensures { λ _. ⌜ now (state .exit) ≡ answered (now (state .entry)) number tracker ⌝ }
 {
     if number < 16 {
         return;

@@ -1,0 +1,2 @@
+-- The layout of a fine state that a host lends as words.
+pub mod Layout

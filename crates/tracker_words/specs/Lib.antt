@@ -1,0 +1,2 @@
+-- The layout of a tracker's state that a host lends as words.
+pub mod Layout

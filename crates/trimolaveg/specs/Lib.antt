@@ -1,0 +1,4 @@
+-- What the calls of the C face answer, by number and values.
+pub mod Lent
+pub mod RingFace
+pub mod TrackerFace
