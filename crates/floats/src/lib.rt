@@ -35,7 +35,8 @@ fn pow2(k: u64) -> u64
     1 << k
 }
 
-// m / 2^k to the nearest whole number, a tie to the even one.
+// m / 2^k to the nearest whole number, a tie to the even one. What is left of m, with half a unit less one, and with one more where q is odd,
+// reaches the unit exactly where the next whole number is taken: no branch, since a test of what is left would be guessed wrong every other time.
 fn to_even(m: u64, k: u64) -> u64
     requires { ⌜ (0 < k) × (k < 64) ⌝ }
     ensures { λ r. ⌜ r ≡ closest m (2 ^ k) ⌝ }
@@ -43,14 +44,9 @@ fn to_even(m: u64, k: u64) -> u64
     let q = m >> k;
     let unit = pow2(k);
     let rest = m - q * unit;
-    let gap = unit - rest;
-    if rest < gap {
-        return q;
-    }
-    if gap < rest {
-        return q + 1;
-    }
-    q + q % 2
+    let half = unit / 2 - 1;
+    let carry = (rest + half + q % 2) >> k;
+    q + carry
 }
 
 // ---- narrowing
