@@ -59,11 +59,12 @@ fn with_scan(session: Session, scan: Scan) -> Session
     ensures { λ r. ⌜ r ≡ withScan session scan ⌝ }
 {
     let tracker = session.tracker;
+    let frames = session.frames;
     let used = session.used;
     Session {
         scan,
         tracker,
-        frames: session.frames,
+        frames,
         cycles: session.cycles,
         used,
     }
@@ -460,5 +461,54 @@ fn bad(number: u32, session: Session, out: &mut [u8]) -> Told
         session,
         at,
         ends: true,
+    }
+}
+
+// One entry of the event input: a bad one, one whose input is short or which passes a total, or an event to be played.
+pub fn step(
+    header: Header,
+    lengths: Lengths,
+    number: u32,
+    session: Session,
+    entry: Entry,
+    samples: &[f32],
+    envelope: &mut [f32],
+    levels: &mut [f32],
+    window: &mut [f32],
+    prefix: &mut [f64],
+    squares: &mut [f64],
+    scores: &mut [f64],
+    lag_sums: &mut [f64],
+    out: &mut [u8],
+) -> Told
+    requires { ⌜ (76 ≤ length (now out)) × (76 * length (now samples) ≤ length (now out)) ⌝ }
+    ensures { λ r. ⌜ Plays (stepped header lengths number session (lent (now (envelope .entry)) (now (levels .entry)) (now (window .entry)) (now (prefix .entry)) (now (squares .entry)) (now (scores .entry)) (now («lag_sums» .entry))) entry (now (samples .entry))) (now (out .entry)) 0 r (lent (now (envelope .exit)) (now (levels .exit)) (now (window .exit)) (now (prefix .exit)) (now (squares .exit)) (now (scores .exit)) (now («lag_sums» .exit))) (now (out .exit)) ⌝ }
+{
+    match entry {
+        Entry::Bad => bad(number, session, out),
+        Entry::Good(event) => {
+            let used = session.used;
+            let admission = recording::admit(header, lengths, used, event);
+            match admission {
+                Admission::Lacking => bad(number, session, out),
+                Admission::Enough(after) => {
+                    let next = with_used(session, after);
+                    play(
+                        number,
+                        next,
+                        event,
+                        samples,
+                        envelope,
+                        levels,
+                        window,
+                        prefix,
+                        squares,
+                        scores,
+                        lag_sums,
+                        out,
+                    )
+                }
+            }
+        }
     }
 }

@@ -72,10 +72,11 @@ pub fn cycle_line(event: u32, cycle: u64, verdict: Verdict) -> Line
 pub fn cycles_after(cycle: u64, verdict: Verdict) -> u64
     ensures { λ r. ⌜ r ≡ cyclesAfter cycle verdict ⌝ }
 {
+    let next = answers::next_long_count(cycle);
     match verdict {
         Verdict::Refused(_) => cycle,
-        Verdict::Hold => answers::next_long_count(cycle),
-        Verdict::Move(_) => answers::next_long_count(cycle),
-        Verdict::Reacquire(_) => answers::next_long_count(cycle),
+        Verdict::Hold => next,
+        Verdict::Move(_) => next,
+        Verdict::Reacquire(_) => next,
     }
 }
