@@ -23,7 +23,7 @@ use units::Samples;
 ghost use mathlib.Core.Path.{_≡_};
 ghost use mathlib.Core.Bool.{true, false};
 ghost use mathlib.Core.List.{[], _∷_};
-ghost use Prim.Native.Nat.{_+_, _*_, _≤_};
+ghost use Prim.Native.Nat.{_+_, _-_, _*_, _^_, _≤_, min};
 ghost use lib.ListN.{length};
 ghost use Rattle.lines.specs.Steps.{Put};
 ghost use Rattle.lines.specs.declared.Line.the-variants as line;
@@ -37,6 +37,7 @@ ghost use Rattle.replay.specs.Log.{logText};
 ghost use Rattle.replay.specs.Telling.{Tells, Plays};
 ghost use Rattle.tracker.specs.Tracker.{seamed};
 ghost use Rattle.tracker.specs.Cycle.{cycled};
+ghost use Rattle.runs.specs.Runs.{ran};
 
 // ---- lines
 
@@ -304,6 +305,39 @@ fn sample(
     }
 }
 
+// A run over the samples that pass: what it left, how many they are, and the index after them.
+struct Passed {
+    session: Session,
+    count: usize,
+    index: u64,
+}
+
+fn later(index: u64, n: usize) -> u64
+    ensures { λ r. ⌜ r ≡ min (index + n) (2 ^ 64 - 1) ⌝ }
+{
+    if index < 0xffff_ffff_ffff_ffff - n as u64 {
+        return index + n as u64;
+    }
+    0xffff_ffff_ffff_ffff
+}
+
+fn pass(session: Session, levels: &mut [f32], samples: &[f32], first: u64) -> Passed
+    ensures session { λ r. ⌜ r .session ≡ withScan session (ran (session .scan) (now (levels .entry)) (now (samples .entry)) first .scan) ⌝ }
+    ensures count { λ r. ⌜ r .count ≡ ran (session .scan) (now (levels .entry)) (now (samples .entry)) first .passed ⌝ }
+    ensures index { λ r. ⌜ r .index ≡ min (first + ran (session .scan) (now (levels .entry)) (now (samples .entry)) first .passed) (2 ^ 64 - 1) ⌝ }
+    ensures levels { λ r. ⌜ now (levels .exit) ≡ ran (session .scan) (now (levels .entry)) (now (samples .entry)) first .levels ⌝ }
+{
+    let before = session.scan;
+    let run = runs::push_near_run(before, levels, samples, first);
+    let after = run.scan;
+    let count = run.passed;
+    Passed {
+        session: with_scan(session, after),
+        count,
+        index: later(first, count),
+    }
+}
+
 // The samples of an event, until one is refused.
 fn near(
     event: u32,
@@ -331,11 +365,22 @@ fn near(
     let mut i = 0;
     while i < samples.len() {
         let before = told.session;
+        let passed = pass(before, levels, &samples[i..], index);
+        let reached = passed.session;
         let at = told.at;
+        index = passed.index;
+        i += passed.count;
+        if i >= samples.len() {
+            return Told {
+                session: reached,
+                at,
+                ends: false,
+            };
+        }
         let x = samples[i];
         told = sample(
             event,
-            before,
+            reached,
             x,
             index,
             envelope,
