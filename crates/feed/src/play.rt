@@ -1,0 +1,229 @@
+// The events of a recording, one after the other.
+use crate::gather;
+use crate::gather::Inputs;
+use crate::sink;
+use crate::sink::Sink;
+use recording::Entry;
+use recording::Header;
+use recording::Lengths;
+use replay::Progress;
+use replay::Session;
+ghost use mathlib.Core.Path.{_≡_};
+ghost use Prim.Native.Nat.{_+_, _≤_, _<_};
+ghost use lib.ListN.{length};
+ghost use Rattle.feed.specs.Within.{AllWithin};
+
+// What is carried from one event to the next, and whether the log ends here.
+pub struct Played {
+    pub inputs: Inputs,
+    pub session: Session,
+    pub sink: Sink,
+    pub ends: bool,
+}
+
+// The same of one event, but for the inputs.
+struct Turned {
+    session: Session,
+    sink: Sink,
+    ends: bool,
+}
+
+// Bytes read so far. An event has read what it needs where the input has it, so that these lengths admit it just as the whole input's would.
+fn lengths(inputs: Inputs) -> Lengths {
+    let far = inputs.far;
+    let near = inputs.near;
+    Lengths {
+        far: far.seen,
+        near: near.seen,
+    }
+}
+
+// Whether a read has failed, or the sink.
+fn broken(inputs: Inputs, sink: Sink) -> bool {
+    if !sink.good {
+        return true;
+    }
+    gather::failed(inputs) != 0
+}
+
+// The place behind the lines, in a buffer of len bytes of which at were written before.
+fn end(progress: Progress, at: usize, len: usize) -> usize
+    requires { ⌜ at ≤ len ⌝ }
+    ensures { λ r. ⌜ r ≤ len ⌝ }
+{
+    match progress {
+        Progress::NoRoom => at,
+        Progress::Wrote(n) => if n <= len - at { at + n } else { len },
+        Progress::Ended(n) => if n <= len - at { at + n } else { len },
+    }
+}
+
+fn ended(progress: Progress) -> bool {
+    match progress {
+        Progress::NoRoom => true,
+        Progress::Wrote(_) => false,
+        Progress::Ended(_) => true,
+    }
+}
+
+// An event handed to the library with its count samples. Its lines go to out behind what stands there.
+fn turn(
+    header: Header,
+    lengths: Lengths,
+    number: u32,
+    session: Session,
+    entry: Entry,
+    count: usize,
+    to: Sink,
+    samples: &[f32],
+    envelope: &mut [f32],
+    levels: &mut [f32],
+    window: &mut [f32],
+    prefix: &mut [f64],
+    squares: &mut [f64],
+    scores: &mut [f64],
+    lag_sums: &mut [f64],
+    out: &mut [u8],
+) -> Turned
+    requires { ⌜ (count ≤ length (now samples)) × (to .at ≤ length (now out)) ⌝ }
+    ensures { λ r. ⌜ r .sink .at ≤ length (now (out .exit)) ⌝ }
+{
+    let at = to.at;
+    let len = out.len();
+    let stepped = replay::event(
+        header,
+        lengths,
+        number,
+        session,
+        entry,
+        &samples[..count],
+        envelope,
+        levels,
+        window,
+        prefix,
+        squares,
+        scores,
+        lag_sums,
+        &mut out[at..],
+    );
+    let next = stepped.session;
+    let progress = stepped.progress;
+    Turned {
+        session: next,
+        sink: sink::until(to, end(progress, at, len)),
+        ends: ended(progress),
+    }
+}
+
+// Event number: its bytes and samples are read, and it is played.
+fn step(
+    header: Header,
+    number: u32,
+    inputs: Inputs,
+    session: Session,
+    to: Sink,
+    bytes: &mut [u8],
+    samples: &mut [f32],
+    envelope: &mut [f32],
+    levels: &mut [f32],
+    window: &mut [f32],
+    prefix: &mut [f64],
+    squares: &mut [f64],
+    scores: &mut [f64],
+    lag_sums: &mut [f64],
+    out: &mut [u8],
+) -> Played
+    requires { ⌜ (AllWithin inputs) × (196608 ≤ length (now bytes)) × (4096 ≤ length (now samples)) × (to .at ≤ length (now out)) ⌝ }
+    ensures { λ r. ⌜ (AllWithin (r .inputs)) × (r .sink .at ≤ length (now (out .exit))) ⌝ }
+{
+    let used = session.used;
+    let gathered = gather::gather(header, used, inputs, bytes, samples);
+    let after = gathered.inputs;
+    let entry = gathered.entry;
+    let count = gathered.count;
+    if broken(after, to) {
+        return Played {
+            inputs: after,
+            session,
+            sink: to,
+            ends: true,
+        };
+    }
+    let turned = turn(
+        header,
+        lengths(after),
+        number,
+        session,
+        entry,
+        count,
+        to,
+        samples,
+        envelope,
+        levels,
+        window,
+        prefix,
+        squares,
+        scores,
+        lag_sums,
+        out,
+    );
+    let next = turned.session;
+    let sink = turned.sink;
+    Played {
+        inputs: after,
+        session: next,
+        sink,
+        ends: turned.ends,
+    }
+}
+
+// All events, until one is bad.
+pub fn events(
+    header: Header,
+    first: Played,
+    bytes: &mut [u8],
+    samples: &mut [f32],
+    envelope: &mut [f32],
+    levels: &mut [f32],
+    window: &mut [f32],
+    prefix: &mut [f64],
+    squares: &mut [f64],
+    scores: &mut [f64],
+    lag_sums: &mut [f64],
+    out: &mut [u8],
+) -> Played
+    requires { ⌜ (AllWithin (first .inputs)) × (196608 ≤ length (now bytes)) × (4096 ≤ length (now samples)) × (311372 ≤ length (now out)) × (first .sink .at ≤ length (now out)) ⌝ }
+    ensures { λ r. ⌜ (AllWithin (r .inputs)) × (r .sink .at ≤ length (now (out .exit))) ⌝ }
+{
+    let mut played = first;
+    let mut number: u32 = 0;
+    while number < header.events {
+        let inputs = played.inputs;
+        let session = played.session;
+        let sink = played.sink;
+        sink::tell(sink, number, header.events);
+        let to = sink::room(sink, out);
+        played = step(
+            header,
+            number,
+            inputs,
+            session,
+            to,
+            bytes,
+            samples,
+            envelope,
+            levels,
+            window,
+            prefix,
+            squares,
+            scores,
+            lag_sums,
+            out,
+        );
+        if played.ends {
+            return played;
+        }
+        number += 1;
+    }
+    played
+}
