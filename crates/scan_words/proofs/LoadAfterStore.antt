@@ -22,62 +22,11 @@ use Rattle.coarse.specs.declared.Verdict.{Verdict}
 use Rattle.coarse.specs.declared.Scan.{Scan}
 use Rattle.scan_words.specs.Layout.{loadedGeometry, loadedFar, loadedNear, loadedFound, areCases, loadedBanked, loadedVerdict, loaded, storedGeometry, storedFar, storedNear, storedFound, storedVerdict, stored}
 use Rattle.scan_words.specs.Fitting.{FoundFits, Fits, LoadsAfterStore}
-
--- ---- one word
-
-half-small : (w other : ℕ) → w < 2 ^ 32 → half w other ≡ w
-unfolding half
-half-small w other h = pick-true _ _ _ (lt-ltb _ _ h)
-
-half-lt : (w : ℕ) → half w 0 < 2 ^ 32
-unfolding half
-half-lt w = pick-case (λ (n : ℕ). n < 2 ^ 32) (ltb w (2 ^ 32)) w 0 (λ e. ltb-true w (2 ^ 32) e) (λ e. omega arith)
-
-is-nan : (x : Float) → isNan x ≡ true → x ≡ nan
-unfolding isNan
-is-nan nan e = refl
-is-nan (inf s) e = absurd (true≢false (sym e))
-is-nan (fin s m x) e = absurd (true≢false (sym e))
-
-nan-fits : (f : Format) → T (fits f nan)
-unfolding fits
-nan-fits binary32 = tt
-nan-fits binary64 = tt
-
-nan-reads : (f : Format) (old : ℕ) → ofBits f (pick (nanBits f old) old (toBits f nan)) ≡ nan
-nan-reads f old =
-    pick-case (λ (w : ℕ). ofBits f w ≡ nan) (nanBits f old) old (toBits f nan)
-    (λ e. is-nan (ofBits f old) (sym (nanBits-is f old) ∙ e))
-    (λ e. ofBits-toBits f nan (nan-fits f))
-
--- a float reads back, whatever stood there
-reads : (f : Format) (old : ℕ) (x : Float) → T (fits f x) → ofBits f (patternOf f old x) ≡ x
-unfolding patternOf
-reads f old x h =
-    pick-case (λ (w : ℕ). ofBits f w ≡ x) (isNan x) _ _
-    (λ e. nan-reads f old ∙ sym (is-nan x e))
-    (λ e. ofBits-toBits f x h)
-
-pattern-lt : (old : ℕ) (x : Float) → old < 2 ^ 32 → T (fits binary32 x) → patternOf binary32 old x < 2 ^ 32
-unfolding patternOf
-pattern-lt old x o h =
-    pick-case (λ (w : ℕ). w < 2 ^ 32) (isNan x) _ _
-    (λ e. pick-case (λ (w : ℕ). w < 2 ^ 32) (nanBits binary32 old) _ _ (λ q. o) (λ q. toBits-lt binary32 nan (nan-fits binary32)))
-    (λ e. toBits-lt binary32 x h)
-
-flag-reads : (b : Bool) → eqb (flagOf b) 1 ≡ b
-unfolding pick
-flag-reads true = refl
-flag-reads false = refl
+use Rattle.words.proofs.Back.{half-small, half-lt, reads, pattern-lt, flag-reads, flag-case}
 
 all-six : {a b c d e f : Bool} → a ≡ true → b ≡ true → c ≡ true → d ≡ true → e ≡ true → f ≡ true → both a (both b (both c (both d (both e f)))) ≡ true
 unfolding pick
 all-six {a} {b} {c} {d} {e} {f} p q r t u v = cc (p, q, r, t, u, v, pick-true a (both b (both c (both d (both e f)))) false p, pick-true b (both c (both d (both e f))) false q, pick-true c (both d (both e f)) false r, pick-true d (both e f) false t, pick-true e f false u)
-
-flag-case : (b : Bool) → ltb (flagOf b) 2 ≡ true
-unfolding pick
-flag-case true = refl
-flag-case false = refl
 
 -- ---- a list, word by word
 
