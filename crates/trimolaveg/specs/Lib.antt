@@ -2,3 +2,4 @@
 pub mod Lent
 pub mod RingFace
 pub mod TrackerFace
+pub mod FineFace

@@ -1,6 +1,18 @@
 // The fine stage's calls. Its state is 13 words: crates/fine_words/specs/Layout.antt.
 ghost use mathlib.Core.Path.{_≡_};
 ghost use lib.ListN.{length};
+ghost use Prim.Native.Nat.{_+_};
+ghost use Rattle.answers.specs.Pick.{pick};
+ghost use Rattle.answers.specs.Refusals.{wrongLength};
+ghost use Rattle.words.specs.Words.{fits, word};
+ghost use Rattle.trimolaveg.specs.Lent.{lent};
+ghost use Rattle.units.specs.Units.{samples};
+ghost use Rattle.fine.specs.State.{frameOf, windowOf};
+ghost use Rattle.fine.specs.Calls.{made, restarted, relocated, wasReset, frameLen, windowLen, maxDelay, windowBackOff, searchRange, framesOf, skippedOf, lastScanRatio, lastScanPeakAt, lastScanOrigin, scansOf};
+ghost use Rattle.gates.specs.Gate.{pushedNear, gated, rescanned};
+ghost use Rattle.peaks.specs.Peak.{searched};
+ghost use Rattle.fine_words.specs.Layout.{loaded, answered};
+ghost use Rattle.trimolaveg.specs.FineFace.{lengthFor, changeNumber, takingNumber, gateNumber, rescanNumber, samplesNumber, samplesValues, countNumber, countValues, ratioNumber, ratioValues, placeNumber, placeValues, positionNumber, positionValues, rangeNumber, rangeValues, peakNumber, peakValues};
 use fine::Change;
 use fine::Changed;
 use fine::CountReport;
@@ -17,14 +29,18 @@ use gates::Taking;
 use peaks::PeakAnswer;
 use units::Samples;
 
-fn change_number(answer: Change) -> u32 {
+fn change_number(answer: Change) -> u32
+    ensures { λ r. ⌜ r ≡ changeNumber answer ⌝ }
+{
     match answer {
         Change::Refused(n) => n as u32,
         Change::Done => 16,
     }
 }
 
-fn taking_number(answer: Taking) -> u32 {
+fn taking_number(answer: Taking) -> u32
+    ensures { λ r. ⌜ r ≡ takingNumber answer ⌝ }
+{
     match answer {
         Taking::Refused(n) => n as u32,
         Taking::Taken => 16,
@@ -32,7 +48,9 @@ fn taking_number(answer: Taking) -> u32 {
     }
 }
 
-fn gate_number(answer: GateAnswer) -> u32 {
+fn gate_number(answer: GateAnswer) -> u32
+    ensures { λ r. ⌜ r ≡ gateNumber answer ⌝ }
+{
     match answer {
         GateAnswer::Refused(n) => n as u32,
         GateAnswer::Skipped => 16,
@@ -42,7 +60,9 @@ fn gate_number(answer: GateAnswer) -> u32 {
     }
 }
 
-fn rescan_number(answer: RescanAnswer) -> u32 {
+fn rescan_number(answer: RescanAnswer) -> u32
+    ensures { λ r. ⌜ r ≡ rescanNumber answer ⌝ }
+{
     match answer {
         RescanAnswer::Refused(n) => n as u32,
         RescanAnswer::NothingRetained => 16,
@@ -54,6 +74,8 @@ fn rescan_number(answer: RescanAnswer) -> u32 {
 
 fn settle(state: &mut [u64], changed: Changed) -> u32
     requires { ⌜ length (now state) ≡ 13 ⌝ }
+    ensures number { λ r. ⌜ r ≡ changeNumber (changed .answer) ⌝ }
+    ensures state { λ r. ⌜ now (state .exit) ≡ answered (now (state .entry)) (changeNumber (changed .answer)) (changed .fine) ⌝ }
 {
     let fine = changed.fine;
     let answer = changed.answer;
@@ -66,6 +88,8 @@ fn settle(state: &mut [u64], changed: Changed) -> u32
 
 fn tell_samples(values: &mut [u64], report: SamplesReport) -> u32
     requires { ⌜ length (now values) ≡ 1 ⌝ }
+    ensures number { λ r. ⌜ r ≡ samplesNumber report ⌝ }
+    ensures values { λ r. ⌜ now (values .exit) ≡ samplesValues (now (values .entry)) report ⌝ }
 {
     match report {
         SamplesReport::Refused(n) => n as u32,
@@ -78,6 +102,8 @@ fn tell_samples(values: &mut [u64], report: SamplesReport) -> u32
 
 fn tell_count(values: &mut [u64], report: CountReport) -> u32
     requires { ⌜ length (now values) ≡ 1 ⌝ }
+    ensures number { λ r. ⌜ r ≡ countNumber report ⌝ }
+    ensures values { λ r. ⌜ now (values .exit) ≡ countValues (now (values .entry)) report ⌝ }
 {
     match report {
         CountReport::Refused(n) => n as u32,
@@ -91,6 +117,8 @@ fn tell_count(values: &mut [u64], report: CountReport) -> u32
 // A NaN is told by the pattern that it has in the state.
 fn tell_ratio(values: &mut [u64], pattern: u64, report: RatioReport) -> u32
     requires { ⌜ length (now values) ≡ 1 ⌝ }
+    ensures number { λ r. ⌜ r ≡ ratioNumber report ⌝ }
+    ensures values { λ r. ⌜ now (values .exit) ≡ ratioValues (now (values .entry)) pattern report ⌝ }
 {
     match report {
         RatioReport::Refused(n) => n as u32,
@@ -103,6 +131,8 @@ fn tell_ratio(values: &mut [u64], pattern: u64, report: RatioReport) -> u32
 
 fn tell_place(values: &mut [u64], place: Position) -> u32
     requires { ⌜ length (now values) ≡ 1 ⌝ }
+    ensures number { λ r. ⌜ r ≡ placeNumber place ⌝ }
+    ensures values { λ r. ⌜ now (values .exit) ≡ placeValues (now (values .entry)) place ⌝ }
 {
     match place {
         Position::Nothing => 16,
@@ -115,6 +145,8 @@ fn tell_place(values: &mut [u64], place: Position) -> u32
 
 fn tell_position(values: &mut [u64], report: PositionReport) -> u32
     requires { ⌜ length (now values) ≡ 1 ⌝ }
+    ensures number { λ r. ⌜ r ≡ positionNumber report ⌝ }
+    ensures values { λ r. ⌜ now (values .exit) ≡ positionValues (now (values .entry)) report ⌝ }
 {
     match report {
         PositionReport::Refused(n) => n as u32,
@@ -124,6 +156,8 @@ fn tell_position(values: &mut [u64], report: PositionReport) -> u32
 
 fn tell_range(values: &mut [u64], report: RangeReport) -> u32
     requires { ⌜ length (now values) ≡ 2 ⌝ }
+    ensures number { λ r. ⌜ r ≡ rangeNumber report ⌝ }
+    ensures values { λ r. ⌜ now (values .exit) ≡ rangeValues (now (values .entry)) report ⌝ }
 {
     match report {
         RangeReport::Refused(n) => n as u32,
@@ -139,6 +173,8 @@ fn tell_range(values: &mut [u64], report: RangeReport) -> u32
 
 fn tell_peak(values: &mut [u64], answer: PeakAnswer) -> u32
     requires { ⌜ length (now values) ≡ 3 ⌝ }
+    ensures number { λ r. ⌜ r ≡ peakNumber answer ⌝ }
+    ensures values { λ r. ⌜ now (values .exit) ≡ peakValues (now (values .entry)) answer ⌝ }
 {
     match answer {
         PeakAnswer::Refused(n) => n as u32,
@@ -158,13 +194,17 @@ fn tell_peak(values: &mut [u64], answer: PeakAnswer) -> u32
 
 // How many words a fine state has.
 #[no_mangle]
-pub extern "C" fn tmv_fine_words() -> u64 {
+pub extern "C" fn tmv_fine_words() -> u64
+    ensures { λ r. ⌜ r ≡ 13 ⌝ }
+{
     13
 }
 
 // Of the near and of the retained frame.
 #[no_mangle]
-pub extern "C" fn tmv_fine_frame_len(span: u32) -> u64 {
+pub extern "C" fn tmv_fine_frame_len(span: u32) -> u64
+    ensures { λ r. ⌜ r ≡ lengthFor span (frameOf span) ⌝ }
+{
     if !answers::allowed_span(span) {
         return 0;
     }
@@ -174,7 +214,9 @@ pub extern "C" fn tmv_fine_frame_len(span: u32) -> u64 {
 
 // Of the far window.
 #[no_mangle]
-pub extern "C" fn tmv_fine_window_len(span: u32) -> u64 {
+pub extern "C" fn tmv_fine_window_len(span: u32) -> u64
+    ensures { λ r. ⌜ r ≡ lengthFor span (windowOf span) ⌝ }
+{
     if !answers::allowed_span(span) {
         return 0;
     }
@@ -184,7 +226,9 @@ pub extern "C" fn tmv_fine_window_len(span: u32) -> u64 {
 
 // Of the correlation, at least.
 #[no_mangle]
-pub extern "C" fn tmv_fine_correlation_len(span: u32) -> u64 {
+pub extern "C" fn tmv_fine_correlation_len(span: u32) -> u64
+    ensures { λ r. ⌜ r ≡ lengthFor span (span + 1) ⌝ }
+{
     if !answers::allowed_span(span) {
         return 0;
     }
@@ -195,7 +239,10 @@ pub extern "C" fn tmv_fine_correlation_len(span: u32) -> u64 {
 
 // A state for delays of `span` samples from the origin on.
 #[no_mangle]
-pub extern "C" fn tmv_fine_new(state: &mut [u64], span: u32) -> u32 {
+pub extern "C" fn tmv_fine_new(state: &mut [u64], span: u32) -> u32
+    ensures number { λ r. ⌜ r ≡ pick (fits 13 (now (state .entry))) (changeNumber (made span .answer)) wrongLength ⌝ }
+    ensures state { λ r. ⌜ now (state .exit) ≡ pick (fits 13 (now (state .entry))) (answered (now (state .entry)) (changeNumber (made span .answer)) (made span .fine)) (now (state .entry)) ⌝ }
+{
     if state.len() != 13 {
         return 2;
     }
@@ -204,7 +251,10 @@ pub extern "C" fn tmv_fine_new(state: &mut [u64], span: u32) -> u32 {
 
 // Drops the near frame under way and the count of frames taken.
 #[no_mangle]
-pub extern "C" fn tmv_fine_restart(state: &mut [u64]) -> u32 {
+pub extern "C" fn tmv_fine_restart(state: &mut [u64]) -> u32
+    ensures number { λ r. ⌜ r ≡ pick (fits 13 (now (state .entry))) (changeNumber (restarted (loaded (now (state .entry))) .answer)) wrongLength ⌝ }
+    ensures state { λ r. ⌜ now (state .exit) ≡ pick (fits 13 (now (state .entry))) (answered (now (state .entry)) (changeNumber (restarted (loaded (now (state .entry))) .answer)) (restarted (loaded (now (state .entry))) .fine)) (now (state .entry)) ⌝ }
+{
     if state.len() != 13 {
         return 2;
     }
@@ -213,7 +263,10 @@ pub extern "C" fn tmv_fine_restart(state: &mut [u64]) -> u32 {
 
 // Searches from another origin on.
 #[no_mangle]
-pub extern "C" fn tmv_fine_relocate(state: &mut [u64], origin: u64) -> u32 {
+pub extern "C" fn tmv_fine_relocate(state: &mut [u64], origin: u64) -> u32
+    ensures number { λ r. ⌜ r ≡ pick (fits 13 (now (state .entry))) (changeNumber (relocated (loaded (now (state .entry))) (samples origin) .answer)) wrongLength ⌝ }
+    ensures state { λ r. ⌜ now (state .exit) ≡ pick (fits 13 (now (state .entry))) (answered (now (state .entry)) (changeNumber (relocated (loaded (now (state .entry))) (samples origin) .answer)) (relocated (loaded (now (state .entry))) (samples origin) .fine)) (now (state .entry)) ⌝ }
+{
     if state.len() != 13 {
         return 2;
     }
@@ -222,7 +275,10 @@ pub extern "C" fn tmv_fine_relocate(state: &mut [u64], origin: u64) -> u32 {
 
 // The state as it was made.
 #[no_mangle]
-pub extern "C" fn tmv_fine_reset(state: &mut [u64]) -> u32 {
+pub extern "C" fn tmv_fine_reset(state: &mut [u64]) -> u32
+    ensures number { λ r. ⌜ r ≡ pick (fits 13 (now (state .entry))) (changeNumber (wasReset (loaded (now (state .entry))) .answer)) wrongLength ⌝ }
+    ensures state { λ r. ⌜ now (state .exit) ≡ pick (fits 13 (now (state .entry))) (answered (now (state .entry)) (changeNumber (wasReset (loaded (now (state .entry))) .answer)) (wasReset (loaded (now (state .entry))) .fine)) (now (state .entry)) ⌝ }
+{
     if state.len() != 13 {
         return 2;
     }
@@ -231,7 +287,11 @@ pub extern "C" fn tmv_fine_reset(state: &mut [u64]) -> u32 {
 
 // Appends one near sample to the near frame.
 #[no_mangle]
-pub extern "C" fn tmv_fine_push_near(state: &mut [u64], near: &mut [f32], sample: f32) -> u32 {
+pub extern "C" fn tmv_fine_push_near(state: &mut [u64], near: &mut [f32], sample: f32) -> u32
+    ensures number { λ r. ⌜ r ≡ pick (fits 13 (now (state .entry))) (takingNumber (pushedNear (loaded (now (state .entry))) (now (near .entry)) sample .took .answer)) wrongLength ⌝ }
+    ensures state { λ r. ⌜ now (state .exit) ≡ pick (fits 13 (now (state .entry))) (answered (now (state .entry)) (takingNumber (pushedNear (loaded (now (state .entry))) (now (near .entry)) sample .took .answer)) (pushedNear (loaded (now (state .entry))) (now (near .entry)) sample .took .fine)) (now (state .entry)) ⌝ }
+    ensures near { λ r. ⌜ now (near .exit) ≡ pick (fits 13 (now (state .entry))) (pushedNear (loaded (now (state .entry))) (now (near .entry)) sample .near) (now (near .entry)) ⌝ }
+{
     if state.len() != 13 {
         return 2;
     }
@@ -252,7 +312,11 @@ pub extern "C" fn tmv_fine_gate(
     far: &[f32],
     missing_head: u64,
     missing_tail: u64,
-) -> u32 {
+) -> u32
+    ensures number { λ r. ⌜ r ≡ pick (fits 13 (now (state .entry))) (gateNumber (gated (loaded (now (state .entry))) (now (near .entry)) (now (retained .entry)) (now (far .entry)) «missing_head» «missing_tail» .gated .answer)) wrongLength ⌝ }
+    ensures state { λ r. ⌜ now (state .exit) ≡ pick (fits 13 (now (state .entry))) (answered (now (state .entry)) (gateNumber (gated (loaded (now (state .entry))) (now (near .entry)) (now (retained .entry)) (now (far .entry)) «missing_head» «missing_tail» .gated .answer)) (gated (loaded (now (state .entry))) (now (near .entry)) (now (retained .entry)) (now (far .entry)) «missing_head» «missing_tail» .gated .fine)) (now (state .entry)) ⌝ }
+    ensures retained { λ r. ⌜ now (retained .exit) ≡ pick (fits 13 (now (state .entry))) (gated (loaded (now (state .entry))) (now (near .entry)) (now (retained .entry)) (now (far .entry)) «missing_head» «missing_tail» .retained) (now (retained .entry)) ⌝ }
+{
     if state.len() != 13 {
         return 2;
     }
@@ -279,7 +343,9 @@ pub extern "C" fn tmv_fine_rescan(
     far: &[f32],
     missing_head: u64,
     missing_tail: u64,
-) -> u32 {
+) -> u32
+    ensures { λ r. ⌜ r ≡ pick (fits 13 (now (state .entry))) (rescanNumber (rescanned (loaded (now (state .entry))) (now (retained .entry)) (now (far .entry)) «missing_head» «missing_tail» .answer)) wrongLength ⌝ }
+{
     if state.len() != 13 {
         return 2;
     }
@@ -296,7 +362,11 @@ pub extern "C" fn tmv_fine_rescan(
 
 // Searches the host's correlation for a candidate: its delay, the peak's position and the ratio's pattern.
 #[no_mangle]
-pub extern "C" fn tmv_fine_peak(state: &mut [u64], correlation: &[f32], values: &mut [u64]) -> u32 {
+pub extern "C" fn tmv_fine_peak(state: &mut [u64], correlation: &[f32], values: &mut [u64]) -> u32
+    ensures number { λ r. ⌜ r ≡ pick (lent 13 (now (state .entry)) 3 (now (values .entry))) (peakNumber (searched (loaded (now (state .entry))) (now (correlation .entry)) .answer)) wrongLength ⌝ }
+    ensures state { λ r. ⌜ now (state .exit) ≡ pick (lent 13 (now (state .entry)) 3 (now (values .entry))) (answered (now (state .entry)) (peakNumber (searched (loaded (now (state .entry))) (now (correlation .entry)) .answer)) (searched (loaded (now (state .entry))) (now (correlation .entry)) .fine)) (now (state .entry)) ⌝ }
+    ensures values { λ r. ⌜ now (values .exit) ≡ pick (lent 13 (now (state .entry)) 3 (now (values .entry))) (peakValues (now (values .entry)) (searched (loaded (now (state .entry))) (now (correlation .entry)) .answer)) (now (values .entry)) ⌝ }
+{
     if state.len() != 13 {
         return 2;
     }
@@ -315,7 +385,10 @@ pub extern "C" fn tmv_fine_peak(state: &mut [u64], correlation: &[f32], values: 
 
 // How many near samples make a frame of this state.
 #[no_mangle]
-pub extern "C" fn tmv_fine_state_frame_len(state: &[u64], values: &mut [u64]) -> u32 {
+pub extern "C" fn tmv_fine_state_frame_len(state: &[u64], values: &mut [u64]) -> u32
+    ensures number { λ r. ⌜ r ≡ pick (lent 13 (now (state .entry)) 1 (now (values .entry))) (samplesNumber (frameLen (loaded (now (state .entry))))) wrongLength ⌝ }
+    ensures values { λ r. ⌜ now (values .exit) ≡ pick (lent 13 (now (state .entry)) 1 (now (values .entry))) (samplesValues (now (values .entry)) (frameLen (loaded (now (state .entry))))) (now (values .entry)) ⌝ }
+{
     if state.len() != 13 {
         return 2;
     }
@@ -327,7 +400,10 @@ pub extern "C" fn tmv_fine_state_frame_len(state: &[u64], values: &mut [u64]) ->
 
 // How many far samples one frame of this state needs.
 #[no_mangle]
-pub extern "C" fn tmv_fine_state_window_len(state: &[u64], values: &mut [u64]) -> u32 {
+pub extern "C" fn tmv_fine_state_window_len(state: &[u64], values: &mut [u64]) -> u32
+    ensures number { λ r. ⌜ r ≡ pick (lent 13 (now (state .entry)) 1 (now (values .entry))) (samplesNumber (windowLen (loaded (now (state .entry))))) wrongLength ⌝ }
+    ensures values { λ r. ⌜ now (values .exit) ≡ pick (lent 13 (now (state .entry)) 1 (now (values .entry))) (samplesValues (now (values .entry)) (windowLen (loaded (now (state .entry))))) (now (values .entry)) ⌝ }
+{
     if state.len() != 13 {
         return 2;
     }
@@ -339,7 +415,10 @@ pub extern "C" fn tmv_fine_state_window_len(state: &[u64], values: &mut [u64]) -
 
 // The span.
 #[no_mangle]
-pub extern "C" fn tmv_fine_max_delay(state: &[u64], values: &mut [u64]) -> u32 {
+pub extern "C" fn tmv_fine_max_delay(state: &[u64], values: &mut [u64]) -> u32
+    ensures number { λ r. ⌜ r ≡ pick (lent 13 (now (state .entry)) 1 (now (values .entry))) (samplesNumber (maxDelay (loaded (now (state .entry))))) wrongLength ⌝ }
+    ensures values { λ r. ⌜ now (values .exit) ≡ pick (lent 13 (now (state .entry)) 1 (now (values .entry))) (samplesValues (now (values .entry)) (maxDelay (loaded (now (state .entry))))) (now (values .entry)) ⌝ }
+{
     if state.len() != 13 {
         return 2;
     }
@@ -351,7 +430,10 @@ pub extern "C" fn tmv_fine_max_delay(state: &[u64], values: &mut [u64]) -> u32 {
 
 // How far back from the near frame's end the far window starts.
 #[no_mangle]
-pub extern "C" fn tmv_fine_window_back_off(state: &[u64], values: &mut [u64]) -> u32 {
+pub extern "C" fn tmv_fine_window_back_off(state: &[u64], values: &mut [u64]) -> u32
+    ensures number { λ r. ⌜ r ≡ pick (lent 13 (now (state .entry)) 1 (now (values .entry))) (samplesNumber (windowBackOff (loaded (now (state .entry))))) wrongLength ⌝ }
+    ensures values { λ r. ⌜ now (values .exit) ≡ pick (lent 13 (now (state .entry)) 1 (now (values .entry))) (samplesValues (now (values .entry)) (windowBackOff (loaded (now (state .entry))))) (now (values .entry)) ⌝ }
+{
     if state.len() != 13 {
         return 2;
     }
@@ -363,7 +445,10 @@ pub extern "C" fn tmv_fine_window_back_off(state: &[u64], values: &mut [u64]) ->
 
 // The first and the last delay that are searched.
 #[no_mangle]
-pub extern "C" fn tmv_fine_search_range(state: &[u64], values: &mut [u64]) -> u32 {
+pub extern "C" fn tmv_fine_search_range(state: &[u64], values: &mut [u64]) -> u32
+    ensures number { λ r. ⌜ r ≡ pick (lent 13 (now (state .entry)) 2 (now (values .entry))) (rangeNumber (searchRange (loaded (now (state .entry))))) wrongLength ⌝ }
+    ensures values { λ r. ⌜ now (values .exit) ≡ pick (lent 13 (now (state .entry)) 2 (now (values .entry))) (rangeValues (now (values .entry)) (searchRange (loaded (now (state .entry))))) (now (values .entry)) ⌝ }
+{
     if state.len() != 13 {
         return 2;
     }
@@ -375,7 +460,10 @@ pub extern "C" fn tmv_fine_search_range(state: &[u64], values: &mut [u64]) -> u3
 
 // The frames taken at this origin.
 #[no_mangle]
-pub extern "C" fn tmv_fine_frames(state: &[u64], values: &mut [u64]) -> u32 {
+pub extern "C" fn tmv_fine_frames(state: &[u64], values: &mut [u64]) -> u32
+    ensures number { λ r. ⌜ r ≡ pick (lent 13 (now (state .entry)) 1 (now (values .entry))) (countNumber (framesOf (loaded (now (state .entry))))) wrongLength ⌝ }
+    ensures values { λ r. ⌜ now (values .exit) ≡ pick (lent 13 (now (state .entry)) 1 (now (values .entry))) (countValues (now (values .entry)) (framesOf (loaded (now (state .entry))))) (now (values .entry)) ⌝ }
+{
     if state.len() != 13 {
         return 2;
     }
@@ -387,7 +475,10 @@ pub extern "C" fn tmv_fine_frames(state: &[u64], values: &mut [u64]) -> u32 {
 
 // The frames skipped since the making or the last reset.
 #[no_mangle]
-pub extern "C" fn tmv_fine_skipped(state: &[u64], values: &mut [u64]) -> u32 {
+pub extern "C" fn tmv_fine_skipped(state: &[u64], values: &mut [u64]) -> u32
+    ensures number { λ r. ⌜ r ≡ pick (lent 13 (now (state .entry)) 1 (now (values .entry))) (countNumber (skippedOf (loaded (now (state .entry))))) wrongLength ⌝ }
+    ensures values { λ r. ⌜ now (values .exit) ≡ pick (lent 13 (now (state .entry)) 1 (now (values .entry))) (countValues (now (values .entry)) (skippedOf (loaded (now (state .entry))))) (now (values .entry)) ⌝ }
+{
     if state.len() != 13 {
         return 2;
     }
@@ -399,7 +490,10 @@ pub extern "C" fn tmv_fine_skipped(state: &[u64], values: &mut [u64]) -> u32 {
 
 // The ratio of the last scan, as its pattern.
 #[no_mangle]
-pub extern "C" fn tmv_fine_last_scan_ratio(state: &[u64], values: &mut [u64]) -> u32 {
+pub extern "C" fn tmv_fine_last_scan_ratio(state: &[u64], values: &mut [u64]) -> u32
+    ensures number { λ r. ⌜ r ≡ pick (lent 13 (now (state .entry)) 1 (now (values .entry))) (ratioNumber (lastScanRatio (loaded (now (state .entry))))) wrongLength ⌝ }
+    ensures values { λ r. ⌜ now (values .exit) ≡ pick (lent 13 (now (state .entry)) 1 (now (values .entry))) (ratioValues (now (values .entry)) (word (now (state .entry)) 9) (lastScanRatio (loaded (now (state .entry))))) (now (values .entry)) ⌝ }
+{
     if state.len() != 13 {
         return 2;
     }
@@ -411,7 +505,10 @@ pub extern "C" fn tmv_fine_last_scan_ratio(state: &[u64], values: &mut [u64]) ->
 
 // Where the peak of the last scan stood, if there was one.
 #[no_mangle]
-pub extern "C" fn tmv_fine_last_scan_peak_at(state: &[u64], values: &mut [u64]) -> u32 {
+pub extern "C" fn tmv_fine_last_scan_peak_at(state: &[u64], values: &mut [u64]) -> u32
+    ensures number { λ r. ⌜ r ≡ pick (lent 13 (now (state .entry)) 1 (now (values .entry))) (positionNumber (lastScanPeakAt (loaded (now (state .entry))))) wrongLength ⌝ }
+    ensures values { λ r. ⌜ now (values .exit) ≡ pick (lent 13 (now (state .entry)) 1 (now (values .entry))) (positionValues (now (values .entry)) (lastScanPeakAt (loaded (now (state .entry))))) (now (values .entry)) ⌝ }
+{
     if state.len() != 13 {
         return 2;
     }
@@ -423,7 +520,10 @@ pub extern "C" fn tmv_fine_last_scan_peak_at(state: &[u64], values: &mut [u64]) 
 
 // The origin of the last scan.
 #[no_mangle]
-pub extern "C" fn tmv_fine_last_scan_origin(state: &[u64], values: &mut [u64]) -> u32 {
+pub extern "C" fn tmv_fine_last_scan_origin(state: &[u64], values: &mut [u64]) -> u32
+    ensures number { λ r. ⌜ r ≡ pick (lent 13 (now (state .entry)) 1 (now (values .entry))) (samplesNumber (lastScanOrigin (loaded (now (state .entry))))) wrongLength ⌝ }
+    ensures values { λ r. ⌜ now (values .exit) ≡ pick (lent 13 (now (state .entry)) 1 (now (values .entry))) (samplesValues (now (values .entry)) (lastScanOrigin (loaded (now (state .entry))))) (now (values .entry)) ⌝ }
+{
     if state.len() != 13 {
         return 2;
     }
@@ -435,7 +535,10 @@ pub extern "C" fn tmv_fine_last_scan_origin(state: &[u64], values: &mut [u64]) -
 
 // The scans since the making or the last reset.
 #[no_mangle]
-pub extern "C" fn tmv_fine_scans(state: &[u64], values: &mut [u64]) -> u32 {
+pub extern "C" fn tmv_fine_scans(state: &[u64], values: &mut [u64]) -> u32
+    ensures number { λ r. ⌜ r ≡ pick (lent 13 (now (state .entry)) 1 (now (values .entry))) (countNumber (scansOf (loaded (now (state .entry))))) wrongLength ⌝ }
+    ensures values { λ r. ⌜ now (values .exit) ≡ pick (lent 13 (now (state .entry)) 1 (now (values .entry))) (countValues (now (values .entry)) (scansOf (loaded (now (state .entry))))) (now (values .entry)) ⌝ }
+{
     if state.len() != 13 {
         return 2;
     }
