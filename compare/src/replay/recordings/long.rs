@@ -10,7 +10,7 @@ const CEILING: u32 = 500;
 const BLOCK: u64 = 480;
 const MINUTE: u64 = 6_000; // blocks
 
-/// The near side has nothing to do with the far one, so that each frame is scored and none is found; every ten seconds the search begins anew.
+/// The near side has nothing to do with the far one, so that frames are scored and a region is found only by chance; every ten seconds the search begins anew.
 pub fn working(random: &mut Random, minutes: u64) -> Recording {
     let other = Signal::speech(random, 240);
     let search = 10 * RATE as u64;
