@@ -1,3 +1,7 @@
 -- Laws that the proofs share, and what the contracts come to.
 mod ScanSeen
 pub mod ScanDetermined
+pub mod FloatDetermined
+pub mod RingDetermined
+pub mod TrackerDetermined
+pub mod FineDetermined

@@ -42,15 +42,49 @@ fn go_to(fd: i32, place: u64) {
 }
 
 // Whether the log is the stored one, to its end.
-fn same_log(finished: Finished, length: u64) -> bool {
+fn same_log(finished: Finished, length: u32) -> bool {
     let outcome = finished.outcome;
     let to = finished.sink;
     match outcome {
-        Outcome::Done => to.done == length,
+        Outcome::Done => to.done == length as u64,
         Outcome::Unread(_) => false,
         Outcome::Unwritten => false,
         Outcome::Refused(_) => false,
     }
+}
+
+// How many bytes of each input the recording has.
+fn most(events: u32, far: u32, near: u32) -> Most {
+    Most {
+        events: events as u64,
+        far: far as u64,
+        near: near as u64,
+    }
+}
+
+// Where the next recording begins.
+fn behind(places: Places, events: u32, far: u32, near: u32, log: u32) -> Places {
+    Places {
+        events: sum(places.events, events),
+        far: sum(places.far, far),
+        near: sum(places.near, near),
+        logs: sum(places.logs, log),
+    }
+}
+
+fn go_to_all(files: Files, places: Places) {
+    go_to(files.events, places.events);
+    go_to(files.far, places.far);
+    go_to(files.near, places.near);
+    go_to(files.logs, places.logs);
+}
+
+// Plays a recording that begins at these places, and says whether its log is the stored one.
+fn agrees(files: Files, places: Places, most: Most, log: u32) -> bool {
+    go_to_all(files, places);
+    let to = sink::fresh(files.logs, true, false);
+    let finished = feed::run(files.events, files.far, files.near, most, to);
+    same_log(finished, log)
 }
 
 // The recording that the 16 bytes of the index from at on speak of.
@@ -63,25 +97,9 @@ fn try_recording(files: Files, run: Run, index: &[u8], at: usize) -> Run
     let far = vectors::number32(index, at + 4);
     let near = vectors::number32(index, at + 8);
     let log = vectors::number32(index, at + 12);
-    go_to(files.events, places.events);
-    go_to(files.far, places.far);
-    go_to(files.near, places.near);
-    go_to(files.logs, places.logs);
-    let most = Most {
-        events: events as u64,
-        far: far as u64,
-        near: near as u64,
-    };
-    let to = sink::fresh(files.logs, true, false);
-    let finished = feed::run(files.events, files.far, files.near, most, to);
-    let same = same_log(finished, log as u64);
+    let same = agrees(files, places, most(events, far, near), log);
     Run {
-        places: Places {
-            events: sum(places.events, events),
-            far: sum(places.far, far),
-            near: sum(places.near, near),
-            logs: sum(places.logs, log),
-        },
+        places: behind(places, events, far, near, log),
         tally: tally.saw(true, same),
     }
 }
