@@ -58,7 +58,7 @@ get-once κs a v w x y p q = once (p .0) (q .0)
 
 pub get-leaves-once : (κs : Lfts 3) (a : Dens κs get-kinds.ps) (v w : resT get-kinds.r κs .Denot) (x y : AtExit (endedOf 3 get-kinds.ps get-kinds.r) κs)
     → get-reads.Post κs a v x → get-reads.Post κs a w y
-    → now (x .1 .1 .0) ≡ now (y .1 .1 .0)
+    → now (x .1 .1 .1 .0) ≡ now (y .1 .1 .1 .0)
 get-leaves-once κs a v w x y p q = once (p .1) (q .1)
 
 pub next-abs-once : Determined 3 next-abs-kinds.ps next-abs-kinds.r next-abs-reads.Post

@@ -37,7 +37,7 @@ on-cycle-once κs a v w x y p q = once (p .0) (q .0)
 pub on-cycle-leaves-once : (κs : Lfts 2) (a : Dens κs on-cycle-kinds.ps) (v w : resT on-cycle-kinds.r κs .Denot) (x y : AtExit (endedOf 2 on-cycle-kinds.ps on-cycle-kinds.r) κs)
     → on-cycle-reads.Post κs a v x → on-cycle-reads.Post κs a w y
     → (now (x .0) ≡ now (y .0)) ×
-    (now (x .1 .0) ≡ now (y .1 .0))
+    (now (x .1 .1 .1 .1 .0) ≡ now (y .1 .1 .1 .1 .0))
 on-cycle-leaves-once κs a v w x y p q = (
   once (p .1 .0) (q .1 .0),
   once (p .1 .1) (q .1 .1),
