@@ -11,6 +11,9 @@ Inv-loop files index run₀ left₀ at₀ run left at = at + left * 16 ≤ lengt
 abbrev μ-loop : tie.MeasureT-loop
 μ-loop files index run₀ left₀ at₀ run left at = left
 
+new-requires : tie.Need-new-requires Inv-loop μ-loop
+new-requires c κs = search needs
+
 loop-holds : tie.Need-loop-holds Inv-loop μ-loop
 loop-holds c = search needs
 
@@ -38,6 +41,7 @@ try-all-spec =
     (tie.spec
     Inv-loop
     μ-loop
+    new-requires
     loop-holds
     sub-left
     try-recording-requires
