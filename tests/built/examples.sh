@@ -2,7 +2,7 @@
 # The archive that firmware links: proves and writes it, builds the programs of examples/ over it, runs them and compares what they print;
 # then, where the Rust original is at hand, holds the whole face beside it in a short run.
 set -eu
-cd "$(dirname "$0")/.."
+cd "$(dirname "$0")/../.."
 left_out() { echo "examples: left out, $1"; exit 0; }
 
 [ "$(uname -m)" = x86_64 ] || left_out "the archive is for x86-64 and this machine is $(uname -m)"
