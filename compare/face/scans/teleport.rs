@@ -12,7 +12,7 @@ pub fn level(random: &mut Random, sort: u64, place: u64) -> f32 {
         1 if (place / 300) % 2 == 0 => 0.5,
         1 => choices::level(random),
         2 => choices::level(random) * 1e30,
-        3 => choices::level(random) * 1e-6,
+        3 => choices::level(random) * random.one_of(&[1e-6, 1e-20]),
         4 => f32::from_bits(0x3f80_0000 + ((place % 7) as u32) * 0x0080_0000),
         5 => 0.25,
         _ => {
