@@ -1,55 +1,16 @@
 // What the first event finds: the lent buffers judged and cleared, a new session.
 use crate::Session;
-use coarse::Geometry;
 use recording::Used;
 use scan::rules;
 use tracker::Tracker;
 ghost use mathlib.Core.Path.{_≡_};
 ghost use mathlib.Core.Bool.{true};
-ghost use Prim.Native.Nat.{_<_, _^_};
 ghost use lib.ListN.{length};
 ghost use Rattle.folds.specs.Sums.{zeros};
-ghost use Rattle.coarse.specs.Bins.{fullSlack, inTable};
-ghost use Rattle.coarse.specs.Calls.{allLengths};
+ghost use Rattle.coarse.specs.Bins.{inTable};
 ghost use Rattle.scoring.specs.Observing.{lent};
 ghost use Rattle.replay.specs.Log.{newSession};
 ghost use Rattle.replay.specs.Library.{startRefusal};
-
-// 2. Each buffer has the length that the geometry gives.
-fn all_lengths(
-    g: Geometry,
-    envelope: &[f32],
-    levels: &[f32],
-    window: &[f32],
-    prefix: &[f64],
-    squares: &[f64],
-    scores: &[f64],
-    lag_sums: &[f64],
-) -> bool
-    requires { ⌜ (g .frame < 2 ^ 62) × (g .span < 2 ^ 62) ⌝ }
-    ensures { λ r. ⌜ r ≡ allLengths fullSlack g (lent (now (envelope .entry)) (now (levels .entry)) (now (window .entry)) (now (prefix .entry)) (now (squares .entry)) (now (scores .entry)) (now («lag_sums» .entry))) ⌝ }
-{
-    let bins = g.frame + g.span;
-    if envelope.len() as u64 != rules::envelope_len(scan::SLACK, g) {
-        return false;
-    }
-    if levels.len() as u64 != g.frame {
-        return false;
-    }
-    if window.len() as u64 != bins {
-        return false;
-    }
-    if prefix.len() as u64 != bins + 1 {
-        return false;
-    }
-    if squares.len() as u64 != bins + 1 {
-        return false;
-    }
-    if scores.len() as u64 != g.span + 1 {
-        return false;
-    }
-    lag_sums.len() as u64 == g.span + 1
-}
 
 // 1 or 2, and 0 for none.
 pub fn refusal(
@@ -69,7 +30,8 @@ pub fn refusal(
         return answers::OUTSIDE_TABLE;
     }
     let g = rules::geometry_of(rate, ceiling);
-    if !all_lengths(
+    if !scoring::refusal::all_lengths(
+        scan::SLACK,
         g,
         envelope,
         levels,

@@ -10,7 +10,7 @@ ghost use Rattle.coarse.specs.Calls.{allLengths, scoreRefusal};
 ghost use Rattle.scoring.specs.Observing.{lent, world, mayRead, Sound};
 
 // 2. Each list has the length that the geometry gives.
-fn all_lengths(
+pub fn all_lengths(
     slack: u32,
     g: Geometry,
     envelope: &[f32],

@@ -10,10 +10,11 @@ const CEILING: u32 = 500;
 const BLOCK: u64 = 480;
 const MINUTE: u64 = 6_000; // blocks
 
-/// The near side has nothing to do with the far one, so that frames are scored and a region is found only by chance; every ten seconds the search begins anew.
+/// The near side has nothing to do with the far one, and the search begins anew behind every four frames of 256 ms, so that a region found by chance ends it for
+/// 16 ms at most: the scan is always at work.
 pub fn working(random: &mut Random, minutes: u64) -> Recording {
     let other = Signal::speech(random, 240);
-    let search = 10 * RATE as u64;
+    let search = 104 * BLOCK;
     turns(random, minutes, |maker, _, at| {
         maker.near_signal(at, other, at, BLOCK);
         if at % search == 0 {
