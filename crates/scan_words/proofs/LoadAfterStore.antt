@@ -9,8 +9,8 @@ use lib.ListN.{length, getD, set}
 use lib.Ieee.{Float, nan, inf, fin, Format, binary32, binary64, fits, isNan, nanBits, ofBits, toBits, top}
 use lib.Ieee.Bits.{ofBits-toBits, toBits-lt, nanBits-is}
 use borrow.Author.Tests.{lt-ltb, ltb-true}
-use Rattle.answers.specs.Pick.{pick, both, pick-true, pick-false, pick-case}
-use Rattle.words.specs.Words.{word, half, patternOf, flagOf}
+use Rattle.answers.specs.Pick.{pick, pick-true, pick-false, pick-case}
+use Rattle.words.specs.Words.{word, half, allBelow, patternOf, flagOf}
 use Rattle.units.specs.Units.{samples}
 use Rattle.coarse.specs.declared.Geometry.{Geometry}
 use Rattle.coarse.specs.declared.Far.{Far}
@@ -22,11 +22,7 @@ use Rattle.coarse.specs.declared.Verdict.{Verdict}
 use Rattle.coarse.specs.declared.Scan.{Scan}
 use Rattle.scan_words.specs.Layout.{loadedGeometry, loadedFar, loadedNear, loadedFound, areCases, loadedBanked, loadedVerdict, loaded, storedGeometry, storedFar, storedNear, storedFound, storedVerdict, stored}
 use Rattle.scan_words.specs.Fitting.{FoundFits, Fits, LoadsAfterStore}
-use Rattle.words.proofs.Back.{half-small, half-lt, reads, pattern-lt, flag-reads, flag-case}
-
-all-six : {a b c d e f : Bool} → a ≡ true → b ≡ true → c ≡ true → d ≡ true → e ≡ true → f ≡ true → both a (both b (both c (both d (both e f)))) ≡ true
-unfolding pick
-all-six {a} {b} {c} {d} {e} {f} p q r t u v = cc (p, q, r, t, u, v, pick-true a (both b (both c (both d (both e f)))) false p, pick-true b (both c (both d (both e f))) false q, pick-true c (both d (both e f)) false r, pick-true d (both e f) false t, pick-true e f false u)
+use Rattle.words.proofs.Back.{half-small, half-lt, reads, pattern-lt, flag-reads, flag-case, all-below}
 
 -- ---- a list, word by word
 
@@ -79,10 +75,16 @@ module _ (g : ℕ → ℕ) (s : Scan) where
     last-small : patternOf binary32 (half (g 18) 0) (s .verdict .last) < 2 ^ 32
     last-small = pattern-lt (half (g 18) 0) (s .verdict .last) (half-lt (g 18)) (h .last)
 
+    numbers-below : allBelow (2 ^ 32) (s .verdict .banked) (s .verdict .frames) (patternOf binary32 (half (g 18) 0) (s .verdict .last)) ≡ true
+    numbers-below = all-below _ _ _ _ (lt-ltb _ _ (h .banked)) (lt-ltb _ _ (h .frames)) (lt-ltb _ _ last-small)
+
+    flags-below : (found : ℕ) → ltb found 2 ≡ true → allBelow 2 found (flagOf (s .verdict .beyond)) (flagOf (s .verdict .exhausted)) ≡ true
+    flags-below found e = all-below _ _ _ _ e (flag-case (s .verdict .beyond)) (flag-case (s .verdict .exhausted))
+
     cases-hold : (f : Found) → areCases (storedFound base f) ≡ true
     unfolding areCases storedFound
-    cases-hold Nothing = all-six (lt-ltb _ _ (h .banked)) (lt-ltb _ _ (h .frames)) (lt-ltb _ _ last-small) refl (flag-case (s .verdict .beyond)) (flag-case (s .verdict .exhausted))
-    cases-hold (At r) = all-six (lt-ltb _ _ (h .banked)) (lt-ltb _ _ (h .frames)) (lt-ltb _ _ last-small) refl (flag-case (s .verdict .beyond)) (flag-case (s .verdict .exhausted))
+    cases-hold Nothing = pick-true _ _ _ numbers-below ∙ flags-below 0 refl
+    cases-hold (At r) = pick-true _ _ _ numbers-below ∙ flags-below 1 refl
 
     banked-back : (f : Found) → loadedBanked (storedFound base f) ≡ s .verdict .banked
     unfolding loadedBanked storedFound

@@ -8,7 +8,7 @@ use lib.Dec.{ltb, eqb}
 use lib.ListN.{set}
 use lib.Ieee.{binary32, binary64, ofBits}
 use Rattle.answers.specs.Pick.{pick, both}
-use Rattle.words.specs.Words.{word, half, patternOf, flagOf}
+use Rattle.words.specs.Words.{word, half, allBelow, patternOf, flagOf}
 use Rattle.units.specs.Units.{samples}
 use Rattle.coarse.specs.declared.Geometry.{Geometry}
 use Rattle.coarse.specs.declared.Far.{Far}
@@ -45,13 +45,7 @@ loadedFound ws = pick (eqb (word ws 19) 0) Nothing (At (record { delay = samples
 
 -- each number of the verdict is a case: three of 32 bits, three flags
 unfoldable pub areCases : List ℕ → Bool
-areCases ws =
-    both (ltb (word ws 16) (2 ^ 32))
-    (both (ltb (word ws 17) (2 ^ 32))
-    (both (ltb (word ws 18) (2 ^ 32))
-    (both (ltb (word ws 19) 2)
-    (both (ltb (word ws 22) 2)
-    (ltb (word ws 23) 2)))))
+areCases ws = both (allBelow (2 ^ 32) (word ws 16) (word ws 17) (word ws 18)) (allBelow 2 (word ws 19) (word ws 22) (word ws 23))
 
 -- four frames banked break a state rule, as a number that is no case does
 unfoldable pub loadedBanked : List ℕ → ℕ

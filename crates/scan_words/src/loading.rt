@@ -68,22 +68,10 @@ fn are_cases(state: &[u64]) -> bool
     requires { ⌜ length (now state) ≡ 24 ⌝ }
     ensures { λ r. ⌜ r ≡ areCases (now (state .entry)) ⌝ }
 {
-    if state[16] >= 0x1_0000_0000 {
+    if !words::all_below(0x1_0000_0000, state[16], state[17], state[18]) {
         return false;
     }
-    if state[17] >= 0x1_0000_0000 {
-        return false;
-    }
-    if state[18] >= 0x1_0000_0000 {
-        return false;
-    }
-    if state[19] >= 2 {
-        return false;
-    }
-    if state[22] >= 2 {
-        return false;
-    }
-    state[23] < 2
+    words::all_below(2, state[19], state[22], state[23])
 }
 
 fn load_banked(state: &[u64]) -> u32

@@ -7,7 +7,7 @@ use lib.Dec.{ltb}
 use borrow.Author.Tests.{lt-ltb}
 use Rattle.answers.specs.Pick.{pick, both, pick-true}
 use Rattle.words.specs.Words.{word}
-use Rattle.words.proofs.Back.{half-small, flag-reads, flag-case}
+use Rattle.words.proofs.Back.{half-small, flag-reads, flag-case, all-below}
 use Rattle.tracker.specs.declared.Delay.{Delay}
 use Rattle.tracker.specs.declared.Delay.the-variants.{Nothing, At}
 use Rattle.tracker.specs.declared.Tracker.{Tracker}
@@ -23,14 +23,12 @@ unfolding loadedDelay pick
 delay-back old Nothing = refl
 delay-back old (At d) = refl
 
-all : {a b c d e f : Bool} → a ≡ true → b ≡ true → c ≡ true → d ≡ true → e ≡ true → f ≡ true → both a (both b (both c (both d (both e f)))) ≡ true
-all {a} {b} {c} {d} {e} {f} p q r t u v = pick-true a _ _ p ∙ pick-true b _ _ q ∙ pick-true c _ _ r ∙ pick-true d _ _ t ∙ pick-true e _ _ u ∙ v
-
 module _ (ws : List ℕ) (t : Tracker) (h : Fits t) where
   cases-hold : areCases (stored ws t) ≡ true
   unfolding areCases stored
   cases-hold =
-      all (delay-case (t .pending)) (delay-case (t .prev)) (lt-ltb _ _ (h .edges)) (lt-ltb _ _ (h .jumps)) (lt-ltb _ _ (h .unconfident)) (flag-case (t .suspect))
+      pick-true _ _ _ (all-below _ _ _ _ (delay-case (t .pending)) (delay-case (t .prev)) (flag-case (t .suspect)))
+      ∙ all-below _ _ _ _ (lt-ltb _ _ (h .edges)) (lt-ltb _ _ (h .jumps)) (lt-ltb _ _ (h .unconfident))
 
   pending-back : loadedPending (stored ws t) ≡ t .pending
   unfolding loadedPending stored

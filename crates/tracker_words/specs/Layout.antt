@@ -11,7 +11,7 @@ use Rattle.tracker.specs.declared.Bands.{Bands}
 use Rattle.tracker.specs.declared.Delay.{Delay}
 use Rattle.tracker.specs.declared.Delay.the-variants.{Nothing, At}
 use Rattle.tracker.specs.declared.Tracker.{Tracker}
-use Rattle.words.specs.Words.{word, half, flagOf}
+use Rattle.words.specs.Words.{word, half, allBelow, flagOf}
 
 -- ---- loading
 
@@ -23,13 +23,7 @@ loadedDelay flag delay = pick (eqb flag 0) Nothing (At (samples delay))
 
 -- each number is a case: three flags, three runs of 32 bits
 unfoldable pub areCases : List ℕ → Bool
-areCases ws =
-    both (ltb (word ws 6) 2)
-    (both (ltb (word ws 8) 2)
-    (both (ltb (word ws 10) (2 ^ 32))
-    (both (ltb (word ws 11) (2 ^ 32))
-    (both (ltb (word ws 12) (2 ^ 32))
-    (ltb (word ws 13) 2)))))
+areCases ws = both (allBelow 2 (word ws 6) (word ws 8) (word ws 13)) (allBelow (2 ^ 32) (word ws 10) (word ws 11) (word ws 12))
 
 -- a pending delay of 2^62 breaks a rule, as a number that is no case does
 unfoldable pub loadedPending : List ℕ → Delay

@@ -36,22 +36,10 @@ fn are_cases(state: &[u64]) -> bool
     requires { ⌜ length (now state) ≡ 14 ⌝ }
     ensures { λ r. ⌜ r ≡ areCases (now (state .entry)) ⌝ }
 {
-    if state[6] >= 2 {
+    if !words::all_below(2, state[6], state[8], state[13]) {
         return false;
     }
-    if state[8] >= 2 {
-        return false;
-    }
-    if state[10] >= 0x1_0000_0000 {
-        return false;
-    }
-    if state[11] >= 0x1_0000_0000 {
-        return false;
-    }
-    if state[12] >= 0x1_0000_0000 {
-        return false;
-    }
-    state[13] < 2
+    words::all_below(0x1_0000_0000, state[10], state[11], state[12])
 }
 
 fn load_pending(state: &[u64]) -> Delay

@@ -9,7 +9,7 @@ use lib.Ieee as Ieee
 use lib.Ieee.Bits.{ofBits-toBits, toBits-lt, nanBits-is}
 use borrow.Author.Tests.{lt-ltb, ltb-true}
 use Rattle.answers.specs.Pick.{pick, pick-true, pick-case}
-use Rattle.words.specs.Words.{half, patternOf, flagOf}
+use Rattle.words.specs.Words.{half, allBelow, patternOf, flagOf}
 
 pub half-small : (w other : ℕ) → w < 2 ^ 32 → half w other ≡ w
 unfolding half
@@ -60,3 +60,7 @@ pub flag-case : (b : Bool) → ltb (flagOf b) 2 ≡ true
 unfolding pick
 flag-case true = refl
 flag-case false = refl
+
+pub all-below : (limit a b c : ℕ) → ltb a limit ≡ true → ltb b limit ≡ true → ltb c limit ≡ true → allBelow limit a b c ≡ true
+unfolding allBelow
+all-below limit a b c p q r = pick-true _ _ _ p ∙ pick-true _ _ _ q ∙ r

@@ -5,7 +5,7 @@ use mathlib.Core.List.{List}
 use lib.Dec.{ltb, eqb}
 use lib.ListN.{getD, length}
 use lib.Ieee.{Float, nan, Format, isNan, nanBits, toBits}
-use Rattle.answers.specs.Pick.{pick}
+use Rattle.answers.specs.Pick.{pick, both}
 
 abbrev pub word : List ℕ → ℕ → ℕ
 word ws i = getD ws i 0
@@ -13,6 +13,10 @@ word ws i = getD ws i 0
 -- a number of 32 bits; a larger one loads as `other`
 unfoldable pub half : ℕ → ℕ → ℕ
 half w other = pick (ltb w (2 ^ 32)) w other
+
+-- three words are flags, below 2, or numbers of 32 bits, below 2^32
+unfoldable pub allBelow : ℕ → ℕ → ℕ → ℕ → Bool
+allBelow limit first second third = both (ltb first limit) (both (ltb second limit) (ltb third limit))
 
 -- the pattern of a float that goes where `old` stands: a NaN leaves a NaN's pattern that stands there
 unfoldable pub patternOf : Format → ℕ → Float → ℕ

@@ -4,7 +4,7 @@ ghost use Prim.Native.Nat.{_<_, _^_};
 ghost use lib.Ieee.{binary32, binary64, ofBits};
 ghost use lib.ListN.{length};
 ghost use Rattle.words.specs.Words;
-ghost use Rattle.words.specs.Words.{patternOf, flagOf};
+ghost use Rattle.words.specs.Words.{allBelow, patternOf, flagOf};
 
 const SIGN: u64 = 0x8000_0000_0000_0000;
 
@@ -25,6 +25,18 @@ pub fn half(w: u64, other: u32) -> u32
         return w as u32;
     }
     other
+}
+
+pub fn all_below(limit: u64, first: u64, second: u64, third: u64) -> bool
+    ensures { λ r. ⌜ r ≡ allBelow limit first second third ⌝ }
+{
+    if first >= limit {
+        return false;
+    }
+    if second >= limit {
+        return false;
+    }
+    third < limit
 }
 
 pub fn float(w: u64) -> f64
