@@ -78,19 +78,21 @@ def public_calls(crate):
                 yield match.group(1), path.relative_to(ROOT)
 
 
-def theorems(crate, call, path):
-    """The theorems about a call: in Determined, or, for the C face, in the module of the call's part, without the prefix."""
+def plain(call, path):
+    """A call's name in its theorems: for the C face without the prefix."""
     part = path.stem.removesuffix("_calls")
-    modules = ["Determined.antt"] if part == path.stem else [part.capitalize() + "Determined.antt", "Determined.antt"]
-    plain = call.removeprefix("tmv_").removeprefix(part + "_")
-    for module in modules:
-        file = CRATES / crate / "proofs" / module
-        known = re.findall(r"^pub ([\w-]+) :", file.read_text(), re.M) if file.exists() else []
-        for name in (call.replace("_", "-"), plain.replace("_", "-")):
-            mine = [t for t in known if t == name + "-once" or t.startswith(name + "-") and t.endswith("-once")]
-            if name + "-once" in mine:
-                return mine
-    return []
+    return call.removeprefix("tmv_").removeprefix(part + "_").replace("_", "-")
+
+
+def theorems(crate, call, path):
+    """The theorems about a call: in Determined, or, for the C face, in the module of the call's part. A theorem is about the call with the longest name that begins it."""
+    part = path.stem.removesuffix("_calls")
+    file = CRATES / crate / "proofs" / ("Determined.antt" if part == path.stem else part.capitalize() + "Determined.antt")
+    known = re.findall(r"^pub ([\w-]+-once) :", file.read_text(), re.M) if file.exists() else []
+    names = [plain(other, there) for other, there in public_calls(crate) if there == path]
+    longest = {t: max((name for name in names if t.startswith(name + "-")), key=len, default="") for t in known}
+    mine = [t for t in known if longest[t] == plain(call, path)]
+    return mine if plain(call, path) + "-once" in mine else []
 
 
 def determined(crates):
