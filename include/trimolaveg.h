@@ -142,13 +142,20 @@ extern "C" {
 #define TMV_TRACKER_WORDS 14
 #define TMV_FINE_WORDS 13
 
-/* ---- floats, as bit patterns. Never refused. */
+/* ---- floats, as bit patterns. Never refused: each answers its value itself. */
 
 /* An f64 narrowed to f32, rounded to nearest, ties to even. A NaN gives 0x7FC00000. */
 uint32_t tmv_narrow(uint64_t bits);
 
 /* The square root of an f64, correctly rounded. Of -0 it is -0; of a NaN or a number below 0, 0x7FF8000000000000. */
 uint64_t tmv_square_root(uint64_t bits);
+
+/* 1 if the f64 is neither a NaN nor infinite, else 0; the same of an f32. */
+uint32_t tmv_is_finite(uint64_t bits);
+uint32_t tmv_is_finite32(uint32_t bits);
+
+/* The absolute value of an f64: the pattern with its sign bit clear, a NaN's too. */
+uint64_t tmv_magnitude(uint64_t bits);
 
 /* ---- the far reference ring. Samples are f32 bit patterns of any kind, NaNs too.
  *
@@ -189,7 +196,7 @@ uint32_t tmv_ring_dropped(const uint64_t *state, size_t state_len, const uint32_
  * frame; 12 is at most the frame; 15 times D is below 2^62; 16 is below 4; 16 to 18 are below 2^32; flags are 0 or 1; where 19 or 23 is 1, 12 and 14 are 0.
  * Without a region 20 and 21 are left as they are.
  *
- * Every call refuses: 2 a state of other than 24 words, or values of another length than it says; 1 a rate or ceiling outside the table; 2 a buffer
+ * Every call but a run of near samples refuses: 2 a state of other than 24 words, or values of another length than it says; 1 a rate or ceiling outside the table; 2 a buffer
  * that is not of the length that rate and ceiling give (below); 3 a broken rule. */
 
 uint64_t tmv_scan_words(void);
@@ -219,6 +226,12 @@ uint32_t tmv_scan_push_far(uint64_t *state, size_t state_len, float *envelope, s
 /* One near sample with its far index. Refuses also: 6 if a full frame waits; 5 for an index of 2^62 or more; 4 if the sample is not finite and would not be dropped.
  * A finished scan ignores any sample with any index. */
 uint32_t tmv_scan_push_near(uint64_t *state, size_t state_len, float *levels, size_t levels_len, float sample, uint64_t index);
+
+/* Near samples of consecutive far indices, from `first` on, in one call: each is taken, dropped or ignored as tmv_scan_push_near would, up to the first one that
+ * it would refuse or that would fill the frame. values: 1 word, how many samples were gone through; the next one, if there is one, is then pushed by itself, which says what
+ * it is. The call itself refuses only 2, a state of other than 24 words or values of other than 1; where anything else is wrong it answers TMV_DONE, and that 0 samples
+ * were gone through. Then nothing but the value is written. */
+uint32_t tmv_scan_push_near_run(uint64_t *state, size_t state_len, float *levels, size_t levels_len, const float *samples, size_t samples_len, uint64_t first, uint64_t *values, size_t values_len);
 
 /* Scores the full near frame, and consumes it. values: 2 words. Refuses also: 7 if no frame is full; 4 if a near level, a written bin of the window or a lag sum
  * is not finite (not asked where the frame is uncovered or ahead). Window, prefixes and scores need not be kept between calls. */

@@ -1,4 +1,4 @@
-//! Square root and narrowing against the processor's own; document 01 fixes what a NaN gives.
+//! Square root, narrowing, finite tests and the absolute value against the processor's own; document 01 fixes what a NaN gives.
 
 use crate::face;
 use crate::random::Random;
@@ -87,7 +87,24 @@ pub fn run(seed: u64, count: u64) -> bool {
         let (got, due) = (face::narrow(bits), narrowed(bits));
         (got != due).then(|| format!("{got:#x}, not {due:#x}"))
     });
-    roots && narrowings
+    let finite = one("finite, f64", &|bits| {
+        let (got, due) = (face::is_finite(bits), f64::from_bits(bits).is_finite());
+        (got != due as u32).then(|| format!("{got}, not {due}"))
+    });
+    // Both halves of each pattern: the upper one has the exponents that were aimed at, the lower one any.
+    let finite32 = one("finite, f32", &|bits| {
+        [(bits >> 32) as u32, bits as u32, narrowed(bits)]
+            .into_iter()
+            .find_map(|half| {
+                let (got, due) = (face::is_finite32(half), f32::from_bits(half).is_finite());
+                (got != due as u32).then(|| format!("{half:#010x}: {got}, not {due}"))
+            })
+    });
+    let magnitudes = one("absolute value", &|bits| {
+        let (got, due) = (face::magnitude(bits), f64::from_bits(bits).abs().to_bits());
+        (got != due).then(|| format!("{got:#x}, not {due:#x}"))
+    });
+    roots && narrowings && finite && finite32 && magnitudes
 }
 
 /// The lengths that the face says for a rate and ceiling and for a span, 0 outside the table.

@@ -32,7 +32,7 @@ mod tally;
 mod trackers;
 
 const USAGE: &str = "\
-face floats SEED COUNT    square root and narrowing against the hardware, COUNT patterns each
+face floats SEED COUNT    square root, narrowing, finite tests and absolute value against the hardware, COUNT patterns each
 face ring SEED CALLS      every call in random order with random damage; so for tracker, scan and fine
 face frames SEED COUNT    frames to be scored, bit for bit
 face streams SEED SCANS   whole streams from samples

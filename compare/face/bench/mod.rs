@@ -16,6 +16,7 @@ pub fn run() -> bool {
         scan::far_push(samples);
     }
     scan::near_push();
+    scan::near_run();
     tracker::cycle();
     fine::peak(1_000);
     fine::peak(32_768);

@@ -2,6 +2,7 @@
 
 use crate::coarse::{CoarseScan, FrameAnswer};
 use crate::face::scan as face;
+use crate::scans::referee::Near;
 use crate::scans::world::{Part, World};
 
 #[derive(Clone, Copy, PartialEq, Debug)]
@@ -12,6 +13,7 @@ pub enum Call {
     DiscardNear,
     PushFar,
     PushNear { sample: f32, index: u64 },
+    PushNearRun { first: u64 },
     Observe,
     BinSamples,
     CeilingSamples,
@@ -23,13 +25,14 @@ pub enum Call {
     Exhausted,
 }
 
-pub const NAMES: [&str; 15] = [
+pub const NAMES: [&str; 16] = [
     "new",
     "reset",
     "rearm",
     "discard_near",
     "push_far",
     "push_near",
+    "push_near_run",
     "observe",
     "bin_samples",
     "ceiling_samples",
@@ -63,15 +66,16 @@ impl Call {
             Call::DiscardNear => 3,
             Call::PushFar => 4,
             Call::PushNear { .. } => 5,
-            Call::Observe => 6,
-            Call::BinSamples => 7,
-            Call::CeilingSamples => 8,
-            Call::Frames => 9,
-            Call::Correlation => 10,
-            Call::Region => 11,
-            Call::BeyondCeiling => 12,
-            Call::Finished => 13,
-            Call::Exhausted => 14,
+            Call::PushNearRun { .. } => 6,
+            Call::Observe => 7,
+            Call::BinSamples => 8,
+            Call::CeilingSamples => 9,
+            Call::Frames => 10,
+            Call::Correlation => 11,
+            Call::Region => 12,
+            Call::BeyondCeiling => 13,
+            Call::Finished => 14,
+            Call::Exhausted => 15,
         }
     }
 
@@ -82,6 +86,7 @@ impl Call {
             Call::Rearm | Call::DiscardNear => &[State, LagSums],
             Call::PushFar => &[State, Envelope, Samples],
             Call::PushNear { .. } => &[State, Levels],
+            Call::PushNearRun { .. } => &[State, Levels, Samples, Values],
             Call::Observe => &OBSERVED,
             Call::BinSamples | Call::CeilingSamples => &[State, Values],
             Call::Frames | Call::Correlation | Call::Region => &[State, Values],
@@ -120,6 +125,13 @@ impl Call {
             Call::PushNear { sample, index } => {
                 face::push_near(w.state.lent_mut(), w.levels.lent_mut(), sample, index)
             }
+            Call::PushNearRun { first } => face::push_near_run(
+                w.state.lent_mut(),
+                w.levels.lent_mut(),
+                w.samples.lent(),
+                first,
+                w.values.lent_mut(),
+            ),
             Call::Observe => observe(w),
             Call::BinSamples => face::bin_samples(w.state.lent(), w.values.lent_mut()),
             Call::CeilingSamples => face::ceiling_samples(w.state.lent(), w.values.lent_mut()),
@@ -142,6 +154,9 @@ impl Call {
             Call::DiscardNear => scan.discard_near(),
             Call::PushFar => scan.push_far(w.samples.lent()),
             Call::PushNear { sample, index } => return (near_answer(scan, sample, index), vec![]),
+            Call::PushNearRun { first } => {
+                return (16, vec![near_run(scan, w.samples.lent(), first)])
+            }
             Call::Observe => return frame_answer(scan.scored()),
             Call::BinSamples => return (16, vec![scan.bin_samples() as u64]),
             Call::CeilingSamples => return (16, vec![scan.ceiling_samples() as u64]),
@@ -190,6 +205,32 @@ fn near_answer(scan: &mut CoarseScan, sample: f32, index: u64) -> u32 {
         (_, true) => 18,
         _ => 17,
     }
+}
+
+/// Pushes the samples one by one as long as they pass, and says how many did: a run ends before the first one that is refused or fills the frame.
+fn near_run(scan: &mut CoarseScan, samples: &[f32], first: u64) -> u64 {
+    let ends = |scan: &CoarseScan, sample: f32, index: u64| {
+        let (fields, geometry) = (scan.fields(), scan.geometry());
+        let near = Near {
+            finished: scan.finished(),
+            full: fields.near_len == geometry.frame,
+            idle: fields.near_len == 0 && fields.near_count == 0,
+            decimation: geometry.decimation as u64,
+        };
+        let last =
+            fields.near_len + 1 == geometry.frame && fields.near_count + 1 == geometry.decimation;
+        near.refusal(sample, index) != 0 || last && !near.finished && !near.drops(index)
+    };
+    let mut passed = 0;
+    for sample in samples {
+        let index = first.wrapping_add(passed);
+        if ends(scan, *sample, index) {
+            break;
+        }
+        assert!(near_answer(scan, *sample, index) < 19);
+        passed += 1;
+    }
+    passed
 }
 
 pub fn frame_answer(answer: FrameAnswer) -> (u32, Vec<u64>) {

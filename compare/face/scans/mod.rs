@@ -124,7 +124,8 @@ impl Run {
             0..=3 => Call::Rearm,
             4..=5 => Call::DiscardNear,
             6..=25 => self.far_push(),
-            26..=65 => self.near_push(),
+            26..=55 => self.near_push(),
+            56..=65 => self.near_run(),
             66..=67 => Call::Observe,
             68..=71 => Call::BinSamples,
             72..=75 => Call::CeilingSamples,
@@ -171,16 +172,37 @@ impl Run {
         Call::PushFar
     }
 
-    fn near_push(&mut self) -> Call {
+    /// An index that goes on, begins a frame, or is any number at all.
+    fn near_index(&mut self) -> u64 {
         let random = &mut self.random;
         let decimation = self.world.bins().decimation;
-        let index = match random.below(20) {
+        match random.below(20) {
             0 => choices::huge(random),
             1 => random.word() >> 3,
             2..=6 => random.below(1 << 30) * decimation,
             _ => self.index,
-        };
+        }
+    }
+
+    /// A run of samples, mostly of a few blocks, now and then of more than a frame.
+    fn near_run(&mut self) -> Call {
+        let first = self.near_index();
+        let random = &mut self.random;
+        let most = random.one_of(&[0, 3, 20, 300, 300, 3_000]);
+        let len = random.between(0, most) as usize;
+        let mut samples: Vec<f32> = (0..len).map(|_| choices::sample(random)).collect();
+        if len > 0 && random.once_in(4) {
+            let at = random.below(len as u64) as usize;
+            samples[at] = f32::from_bits(choices::odd32(random));
+        }
+        self.world.samples = crate::lent::Lent::of(&samples);
+        Call::PushNearRun { first }
+    }
+
+    fn near_push(&mut self) -> Call {
+        let index = self.near_index();
         self.index = index.wrapping_add(1);
+        let random = &mut self.random;
         let sample = match random.once_in(20) {
             true => f32::from_bits(choices::odd32(random)),
             false => choices::sample(random),
@@ -245,6 +267,10 @@ impl Run {
         if let Some(part) = call.lent().iter().find(|part| !w.part(**part).intact()) {
             return Some(format!("a guard of {part:?} was written"));
         }
+        if due != 0 && matches!(call, Call::PushNearRun { .. }) && referee::readable_words(w, call)
+        {
+            return self.rested(got);
+        }
         if due != 0 {
             if got != due {
                 return Some(format!("answered {got}, {due} is due"));
@@ -259,6 +285,19 @@ impl Run {
         self.values_differ(call, &values)
             .or_else(|| self.state_differs(call))
             .or_else(|| self.world.buffer_differs(&self.original, call.lent()))
+    }
+
+    /// A run of which no sample can pass: it says so, and writes nothing else.
+    fn rested(&mut self, got: u32) -> Option<String> {
+        let w = &mut self.world;
+        if got != 16 || w.values.lent() != [0] {
+            let passed = w.values.lent();
+            return Some(format!("answered {got} and {passed:?}, none can pass"));
+        }
+        [Part::State, Part::Levels, Part::Samples]
+            .iter()
+            .find(|part| !w.part(**part).unchanged())
+            .map(|part| format!("no sample passed, and {part:?} was written"))
     }
 
     /// The values that the answer has; the others are as they were.
@@ -306,6 +345,9 @@ impl Run {
                 damage.undo(&mut self.world);
                 self.behind |= taken;
             }
+        }
+        if let (0, Call::PushNearRun { first }) = (due, *call) {
+            self.index = first.wrapping_add(self.world.values.all()[0]);
         }
         if due == 0 && matches!(call, Call::New { .. }) {
             self.setting = (self.world.word(0), self.world.word(1));

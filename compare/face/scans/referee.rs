@@ -4,13 +4,16 @@ use crate::rules::*;
 use crate::scans::calls::Call;
 use crate::scans::world::{Part, World, WORDS};
 
-/// The number that is due; 0 for none.
+/// The state and the values have the lengths that the call says.
+pub fn readable_words(w: &World, call: &Call) -> bool {
+    let values = !call.lent().contains(&Part::Values) || w.values.lent().len() == call.values();
+    w.state.lent().len() == WORDS && values
+}
+
+/// The number that is due; 0 for none. Of a run, the number that every sample of it is refused with.
 pub fn due(w: &World, call: &Call) -> u32 {
     let state = w.state.lent();
-    if state.len() != WORDS {
-        return WRONG_LENGTH;
-    }
-    if call.lent().contains(&Part::Values) && w.values.lent().len() != call.values() {
+    if !readable_words(w, call) {
         return WRONG_LENGTH;
     }
     let making = match *call {
@@ -82,20 +85,13 @@ fn later(w: &World, call: &Call, bins: &Bins) -> u32 {
             }
         }
         Call::PushNear { sample, index } => {
-            if state[19] == 1 || state[23] == 1 {
-                return 0;
-            }
-            if full {
-                return FRAME_WAITS;
-            }
-            if index >= LIMIT {
-                return TOO_LARGE;
-            }
-            let begins = state[12] == 0 && state[14] == 0;
-            let dropped = begins && index % bins.decimation != 0;
-            if !dropped && !finite32(sample.to_bits()) {
-                return NOT_FINITE;
-            }
+            let near = Near {
+                finished: w.finished(),
+                full,
+                idle: state[12] == 0 && state[14] == 0,
+                decimation: bins.decimation,
+            };
+            return near.refusal(sample, index);
         }
         Call::Observe => {
             if !full {
@@ -108,6 +104,35 @@ fn later(w: &World, call: &Call, bins: &Bins) -> u32 {
         _ => {}
     }
     0
+}
+
+/// What a near push looks at in a state that keeps the rules.
+pub struct Near {
+    pub finished: bool,
+    pub full: bool,
+    pub idle: bool,
+    pub decimation: u64,
+}
+
+impl Near {
+    /// No frame is under way, and none begins at this index.
+    pub fn drops(&self, index: u64) -> bool {
+        self.idle && index % self.decimation != 0
+    }
+
+    pub fn refusal(&self, sample: f32, index: u64) -> u32 {
+        if self.finished {
+            0
+        } else if self.full {
+            FRAME_WAITS
+        } else if index >= LIMIT {
+            TOO_LARGE
+        } else if !self.drops(index) && !finite32(sample.to_bits()) {
+            NOT_FINITE
+        } else {
+            0
+        }
+    }
 }
 
 /// A frame that is neither uncovered nor ahead reads its near levels, the written bins of its window and all lag sums.

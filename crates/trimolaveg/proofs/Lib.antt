@@ -1,5 +1,7 @@
 -- Laws that the proofs share, and what the contracts come to.
 mod ScanSeen
+mod RunSeen
+pub mod Patterns
 pub mod ScanDetermined
 pub mod FloatDetermined
 pub mod RingDetermined

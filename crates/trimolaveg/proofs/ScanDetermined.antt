@@ -30,6 +30,8 @@ use Rattle.trimolaveg.proofs.scan_calls.tmv_scan_push_far.Kinds as push
 use Rattle.trimolaveg.proofs.scan_calls.tmv_scan_push_far.Reads as push-far-reads
 use Rattle.trimolaveg.proofs.scan_calls.tmv_scan_push_near.Kinds as push-near-kinds
 use Rattle.trimolaveg.proofs.scan_calls.tmv_scan_push_near.Reads as push-near-reads
+use Rattle.trimolaveg.proofs.scan_calls.tmv_scan_push_near_run.Kinds as push-near-run-kinds
+use Rattle.trimolaveg.proofs.scan_calls.tmv_scan_push_near_run.Reads as push-near-run-reads
 use Rattle.trimolaveg.proofs.scan_calls.tmv_scan_observe.Kinds as observe-kinds
 use Rattle.trimolaveg.proofs.scan_calls.tmv_scan_observe.Reads as observe-reads
 use Rattle.trimolaveg.proofs.scan_calls.tmv_scan_bin_samples.Kinds as bin-samples-kinds
@@ -141,6 +143,20 @@ pub push-near-leaves-once : (κs : Lfts 2) (a : Dens κs push-near-kinds.ps) (v 
 push-near-leaves-once κs a v w x y p q = (
   once (p .1 .0) (q .1 .0),
   once (p .1 .1) (q .1 .1),
+)
+
+pub push-near-run-once : Determined 4 push-near-run-kinds.ps push-near-run-kinds.r push-near-run-reads.Post
+push-near-run-once κs a v w x y p q = once (p .0) (q .0)
+
+pub push-near-run-leaves-once : (κs : Lfts 4) (a : Dens κs push-near-run-kinds.ps) (v w : resT push-near-run-kinds.r κs .Denot) (x y : AtExit (endedOf 4 push-near-run-kinds.ps push-near-run-kinds.r) κs)
+    → push-near-run-reads.Post κs a v x → push-near-run-reads.Post κs a w y
+    → (now (x .0) ≡ now (y .0)) ×
+    (now (x .1 .0) ≡ now (y .1 .0)) ×
+    (now (x .1 .1 .1 .1 .0) ≡ now (y .1 .1 .1 .1 .0))
+push-near-run-leaves-once κs a v w x y p q = (
+  once (p .1 .0) (q .1 .0),
+  once (p .1 .1 .0) (q .1 .1 .0),
+  once (p .1 .1 .1) (q .1 .1 .1),
 )
 
 pub observe-once : Determined 9 observe-kinds.ps observe-kinds.r observe-reads.Post

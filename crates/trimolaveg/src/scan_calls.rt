@@ -1,16 +1,20 @@
 // The coarse scan: a state of 24 words.
+use coarse::Scan;
 use scan_words::answering;
 use scan_words::loading;
 use scan_words::storing;
 ghost use mathlib.Core.Path.{_≡_};
+ghost use lib.ListN.{length};
 ghost use Rattle.answers.specs.Pick.{pick, both};
 ghost use Rattle.answers.specs.Refusals.{wrongLength};
 ghost use Rattle.words.specs.Words.{fits};
 ghost use Rattle.coarse.specs.Bins.{fullSlack, inTable, geometryOf, envelopeLen, nearLen, windowLen, prefixLen, lags};
 ghost use Rattle.coarse.specs.Calls.{made, wasReset, rearmed, discarded, pushedFar, pushedNear, observed, binSamples, ceilingSamples, framesOf, correlationOf, regionOf, beyondCeiling, isFinished, isExhausted};
 ghost use Rattle.scoring.specs.Observing.{lent, world};
+ghost use Rattle.runs.specs.Runs.{ran};
 ghost use Rattle.scan_words.specs.Layout.{loaded};
 ghost use Rattle.scan_words.specs.Answers.{changeNumber, takingNumber, scoringNumber, samplesNumber, countNumber, levelNumber, regionNumber, flagNumber, samplesValues, countValues, levelValues, regionValues, scoringValues, changedWords, tookWords, scoredWords};
+ghost use Rattle.trimolaveg.specs.ScanFace.{keptRun, ranWords, ranValues};
 
 // ---- lengths
 
@@ -204,6 +208,46 @@ pub extern "C" fn tmv_scan_push_near(
     let number = answering::taking_number(answer);
     storing::answer(state, number, left);
     number
+}
+
+// What a run leaves in the words: nothing new where no sample passed.
+fn keep_run(state: &mut [u64], scan: Scan, passed: usize)
+    requires { ⌜ length (now state) ≡ 24 ⌝ }
+    ensures { λ _. ⌜ now (state .exit) ≡ keptRun (now (state .entry)) scan passed ⌝ }
+{
+    if passed == 0 {
+        return;
+    }
+    storing::answer(state, 16, scan);
+}
+
+// Near samples of consecutive indices, from `first` on, as many as are ignored, dropped or taken: the run ends before the first one that is refused or fills the frame.
+// That one is pushed by itself, which says what it is. Where no sample passes nothing is stored, so that words which are no state are left as they are.
+#[no_mangle]
+pub extern "C" fn tmv_scan_push_near_run(
+    state: &mut [u64],
+    levels: &mut [f32],
+    samples: &[f32],
+    first: u64,
+    values: &mut [u64],
+) -> u32
+    ensures answer { λ r. ⌜ r ≡ pick (both (fits 24 (now (state .entry))) (fits 1 (now (values .entry)))) 16 wrongLength ⌝ }
+    ensures state { λ r. ⌜ now (state .exit) ≡ pick (both (fits 24 (now (state .entry))) (fits 1 (now (values .entry)))) (ranWords (now (state .entry)) (ran (loaded (now (state .entry))) (now (levels .entry)) (now (samples .entry)) first)) (now (state .entry)) ⌝ }
+    ensures levels { λ r. ⌜ now (levels .exit) ≡ pick (both (fits 24 (now (state .entry))) (fits 1 (now (values .entry)))) (ran (loaded (now (state .entry))) (now (levels .entry)) (now (samples .entry)) first .levels) (now (levels .entry)) ⌝ }
+    ensures values { λ r. ⌜ now (values .exit) ≡ pick (both (fits 24 (now (state .entry))) (fits 1 (now (values .entry)))) (ranValues (now (values .entry)) (ran (loaded (now (state .entry))) (now (levels .entry)) (now (samples .entry)) first)) (now (values .entry)) ⌝ }
+{
+    if state.len() != scan_words::WORDS {
+        return answers::WRONG_LENGTH as u32;
+    }
+    if values.len() != 1 {
+        return answers::WRONG_LENGTH as u32;
+    }
+    let run = runs::push_near_run(loading::load(state), levels, samples, first);
+    let left = run.scan;
+    let passed = run.passed;
+    keep_run(state, left, passed);
+    values[0] = passed as u64;
+    16
 }
 
 // A full frame is scored: 16 uncovered, 17 ahead, 18 quiet, 19 flat, 20 banked (its peak as f32), 21 weak, 22 ceiling, 23 crowded, 24 a region (delay, correlation as f64).
