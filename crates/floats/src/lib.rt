@@ -1,5 +1,6 @@
 // Float helpers: an f64 narrowed to an f32, and the square root of an f64, worked out on bit patterns with whole numbers.
 ghost use mathlib.Core.Path.{_≡_};
+ghost use mathlib.Core.Bool.{true};
 ghost use Prim.Native.Nat.{_+_, _-_, _*_, _^_, _<_, _≤_};
 ghost use lib.Ieee.{binary64};
 ghost use lib.Ieee.Nearest.{closest};
@@ -54,6 +55,15 @@ const LOWEST: u64 = 0x3810_0000_0000_0000;
 
 const TOO_LARGE: u64 = 0x47f0_0000_0000_0000;
 
+fn is_usual(b: u64) -> bool
+    ensures { λ r. ⌜ (r ≡ true → (0x3810_0000_0000_0000 ≤ b) × (b < 0x47f0_0000_0000_0000)) ⌝ }
+{
+    if b < LOWEST {
+        return false;
+    }
+    b < TOO_LARGE
+}
+
 // The usual case: exponent and digits together lose 29 places, a tie to the even pattern, and the exponent's field counts from 2^-126 on.
 fn narrow_usual(size: u64) -> u64
     requires { ⌜ (0x3810_0000_0000_0000 ≤ size) × (size < 0x47f0_0000_0000_0000) ⌝ }
@@ -102,10 +112,7 @@ fn narrow_any(b: u64) -> u32
 pub fn narrow_bits(b: u64) -> u32
     ensures { λ r. ⌜ NarrowsBits b r ⌝ }
 {
-    if b < LOWEST {
-        return narrow_any(b);
-    }
-    if b < TOO_LARGE {
+    if is_usual(b) {
         return narrow_usual(b) as u32;
     }
     narrow_any(b)
