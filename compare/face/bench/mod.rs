@@ -12,9 +12,7 @@ pub fn run() -> bool {
     println!("|---|---|---|---|---|");
     scan::frames(48_000, 500, 300);
     scan::frames(48_000, 4_000, 60);
-    for samples in [64, 480, 4_096] {
-        scan::far_push(samples);
-    }
+    far_pushes();
     scan::near_push();
     scan::near_run();
     tracker::cycle();
@@ -22,6 +20,16 @@ pub fn run() -> bool {
     fine::peak(32_768);
     floats::root();
     floats::narrowing();
+    true
+}
+
+/// The far push alone: every row of its grid.
+pub fn far_pushes() -> bool {
+    for rate in [8_000, 16_000, 48_000, 192_000] {
+        for samples in [64, 480, 4_096] {
+            scan::far_push(rate, samples);
+        }
+    }
     true
 }
 

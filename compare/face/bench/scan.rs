@@ -88,28 +88,65 @@ fn roots(w: &World, runs: usize) -> f64 {
     least(&(0..runs).map(|_| time()).collect::<Vec<f64>>())
 }
 
-pub fn far_push(count: usize) {
+/// So many samples a run, cut into pushes of `count`. The stream is several runs long, so that no run repeats the one before it.
+const RUN: usize = 1 << 15;
+const STREAM: usize = 8 * RUN;
+
+/// The next run of a stream that begins anew at its end.
+struct Runs<'a> {
+    stream: &'a [f32],
+    at: usize,
+}
+
+impl<'a> Runs<'a> {
+    fn next(&mut self) -> &'a [f32] {
+        let run = &self.stream[self.at..self.at + RUN];
+        self.at = (self.at + RUN) % STREAM;
+        run
+    }
+}
+
+pub fn far_push(rate: u32, count: usize) {
     let mut random = Random::new(9);
-    let samples: Vec<f32> = (0..count).map(|_| choices::sample(&mut random)).collect();
-    let mut w = World::new(48_000, 500);
-    let mut original = CoarseScan::new(48_000, 500);
+    let stream: Vec<f32> = (0..STREAM).map(|_| choices::sample(&mut random)).collect();
+    let mut w = World::new(rate, 500);
+    let mut original = CoarseScan::new(rate, 500);
+    let mut our_runs = Runs {
+        stream: &stream,
+        at: 0,
+    };
+    let mut rust_runs = Runs {
+        stream: &stream,
+        at: 0,
+    };
     let times = Times::take(
-        2_000,
+        400,
         || {
-            let mut answer = 0;
-            let time = nanoseconds(|| {
-                answer = face::scan::push_far(
-                    w.state.lent_mut(),
-                    w.envelope.lent_mut(),
-                    black_box(&samples),
-                );
-            });
-            assert_eq!(answer, 16);
-            time
+            let run = our_runs.next();
+            nanoseconds(|| {
+                for samples in run.chunks_exact(count) {
+                    let answer = face::scan::push_far(
+                        w.state.lent_mut(),
+                        w.envelope.lent_mut(),
+                        black_box(samples),
+                    );
+                    assert_eq!(answer, 16);
+                }
+            })
         },
-        || nanoseconds(|| rust_push_far(&mut original, black_box(&samples))),
+        || {
+            let run = rust_runs.next();
+            nanoseconds(|| {
+                for samples in run.chunks_exact(count) {
+                    rust_push_far(&mut original, black_box(samples));
+                }
+            })
+        },
     );
-    times.row(&format!("far push of {count} samples, a push"), 1);
+    times.row(
+        &format!("far push of {count} samples at {rate} Hz, a push"),
+        RUN / count,
+    );
 }
 
 /// A function of its own, so that what it is compiled to does not hang on the benchmark around it.

@@ -48,6 +48,18 @@ onward-more s xs m i t e = rw (add-one, e)
 pub onward-first : (s : Float) (xs : List Float) (i : ℕ) (t : Float) → t ≡ onward s xs 0 i → summed t (at xs i) ≡ onward s xs 0 (i + 1)
 onward-first s xs i t e = ap (λ (n : ℕ). summed t (at xs n)) (sym (zero-add i)) ∙ onward-more s xs 0 i t e
 
+-- a sum that goes on twice
+pub onward-join : (s : Float) (xs : List Float) (m a b : ℕ) → onward (onward s xs m a) xs (m + a) b ≡ onward s xs m (a + b)
+unfolding onward
+onward-join s xs m a zero = simp add-zero
+onward-join s xs m a (suc b) =
+    let e = onward-join s xs m a b in
+    let p : m + a + b ≡ m + (a + b) = omega arith in
+    rw (e, p, add-suc a b)
+
+pub onward-through : (s t : Float) (xs : List Float) (m k from a b : ℕ) → t ≡ onward s xs m a → from ≡ m + a → a + b ≡ k → onward t xs from b ≡ onward s xs m k
+onward-through s t xs m k from a b e p q = ap (λ (u : Float). onward u xs from b) e ∙ ap (λ (n : ℕ). onward (onward s xs m a) xs n b) p ∙ onward-join s xs m a b ∙ ap (onward s xs m) q
+
 -- ---- samples of one block
 
 module _ (slack : ℕ) (g : Geometry) (xs : List Float) where
@@ -101,6 +113,35 @@ module _ (slack : ℕ) (g : Geometry) (xs : List Float) where
   unfolding hearAll
   ends-block f e some whole = block f e 0 (length xs) some whole (omega arith) ∙ rw (zero-add (length xs), drop-of-length-le xs {i = length xs} (omega arith))
 
+  -- ---- the block under way, and samples of the next
+
+  pub into-second : (f : Far) (e : List Float) (r k : ℕ) → f .count < g .decimation → f .count + r ≡ g .decimation → r + k ≡ length xs → k < g .decimation
+      → hearAll slack g (with f e) xs
+      ≡ with (record { next = f .next + 1; sum = onward zero64 xs r k; count = k; accepted = f .accepted + length xs }) (set e (f .next % envelopeLen slack g) (levelOf g (onward (f .sum) xs 0 r)))
+  unfolding hearAll
+  into-second f e r k some whole l small =
+      let f₁ = ended f r in
+      let e₁ = set e (f .next % envelopeLen slack g) (levelOf g (onward (f .sum) xs 0 r)) in
+      let a = block f e 0 r some whole (omega arith) in
+      let from : hearAll slack g (with f₁ e₁) (drop (0 + r) xs) ≡ hearAll slack g (with f₁ e₁) (drop r xs) = rw (zero-add r) in
+      let b = into f₁ e₁ r k (omega arith) (omega arith) in
+      let taken : f .accepted + r + k ≡ f .accepted + length xs = omega arith in
+      a ∙ from ∙ b ∙ rw (drop-of-length-le xs {i = r + k} (omega arith), taken, zero-add k)
+
+  pub ends-second : (f : Far) (e : List Float) (r k : ℕ) → f .count < g .decimation → f .count + r ≡ g .decimation → r + k ≡ length xs → k ≡ g .decimation
+      → hearAll slack g (with f e) xs
+      ≡ with (record { next = f .next + 1 + 1; sum = zero64; count = 0; accepted = f .accepted + length xs })
+      (set (set e (f .next % envelopeLen slack g) (levelOf g (onward (f .sum) xs 0 r))) ((f .next + 1) % envelopeLen slack g) (levelOf g (onward zero64 xs r k)))
+  unfolding hearAll
+  ends-second f e r k some whole l full =
+      let f₁ = ended f r in
+      let e₁ = set e (f .next % envelopeLen slack g) (levelOf g (onward (f .sum) xs 0 r)) in
+      let a = block f e 0 r some whole (omega arith) in
+      let from : hearAll slack g (with f₁ e₁) (drop (0 + r) xs) ≡ hearAll slack g (with f₁ e₁) (drop r xs) = rw (zero-add r) in
+      let b = block f₁ e₁ r k (omega arith) (omega arith) (omega arith) in
+      let taken : f .accepted + r + k ≡ f .accepted + length xs = omega arith in
+      a ∙ from ∙ b ∙ rw (drop-of-length-le xs {i = r + k} (omega arith), taken)
+
   -- ---- four of them
 
   pub four : (f : Far) (e : List Float) → f .count ≡ 0 → 1 ≤ g .decimation → length xs ≡ 4 * g .decimation
@@ -128,6 +169,15 @@ module _ (slack : ℕ) (g : Geometry) (xs : List Float) where
       let from : hearAll slack g (with f₁ e₁) (drop (0 + D) xs) ≡ hearAll slack g (with f₁ e₁) (drop D xs) = rw (zero-add D) in
       let taken : f .accepted + D + D + D + D ≡ f .accepted + length xs = omega arith in
       a ∙ from ∙ b ∙ c ∙ d ∙ rw (drop-of-length-le xs {i = D + D + D + D} (omega arith), taken)
+
+-- a level stored, and two one after the other, their sums known
+pub store-one : (g : Geometry) (L n : ℕ) (e e₁ : List Float) (s₁ t₁ : Float) → length e ≡ L → s₁ ≡ t₁ → e₁ ≡ set e (n % length e) (levelOf g s₁) → e₁ ≡ set e (n % L) (levelOf g t₁)
+store-one g L n e e₁ s₁ t₁ l p₁ q₁ = rw (q₁, p₁) (simp l)
+
+pub store-two : (g : Geometry) (L n : ℕ) (e e₁ e₂ : List Float) (s₁ s₂ t₁ t₂ : Float) → length e ≡ L → s₁ ≡ t₁ → s₂ ≡ t₂
+    → e₁ ≡ set e (n % length e) (levelOf g s₁) → e₂ ≡ set e₁ ((n + 1) % length e₁) (levelOf g s₂)
+    → e₂ ≡ set (set e (n % L) (levelOf g t₁)) ((n + 1) % L) (levelOf g t₂)
+store-two g L n e e₁ e₂ s₁ s₂ t₁ t₂ l p₁ p₂ q₁ q₂ = rw (q₂, q₁, p₁, p₂) (simp (length-set, l))
 
 -- four levels stored one after the other, their sums known
 pub stores : (g : Geometry) (L n : ℕ) (e e₁ e₂ e₃ e₄ : List Float) (s₁ s₂ s₃ s₄ t₁ t₂ t₃ t₄ : Float) → length e ≡ L

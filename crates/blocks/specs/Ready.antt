@@ -32,15 +32,21 @@ pub record HearsPart (slack : ℕ) (g : Geometry) (f : Far) (envelope xs : List 
   pub all : HearsAll slack g f envelope xs
   pub part : f .count + length xs ≤ g .decimation
 
+-- samples that complete the block under way, and are of no more than the next one beside
+pub record HearsTwo (slack : ℕ) (g : Geometry) (f : Far) (envelope xs : List Float) : Type 0 where
+  pub all : HearsAll slack g f envelope xs
+  pub one : g .decimation ≤ f .count + length xs
+  pub two : f .count + length xs ≤ 2 * g .decimation
+
 -- four whole blocks, from a block's start on
 pub record HearsFour (slack : ℕ) (g : Geometry) (f : Far) (envelope xs : List Float) : Type 0 where
   pub all : HearsAll slack g f envelope xs
   pub start : f .count ≡ 0
   pub four : length xs ≡ 4 * g .decimation
 
--- n samples are of one block, or are four whole ones
+-- n samples are of two blocks at most, or are four whole ones
 abbrev pub Shaped : Geometry → Far → ℕ → Type 0
-Shaped g f n = g .decimation < f .count + n → (f .count ≡ 0) × (n ≡ 4 * g .decimation)
+Shaped g f n = 2 * g .decimation < f .count + n → (f .count ≡ 0) × (n ≡ 4 * g .decimation)
 
 pub record HearsRun (slack : ℕ) (g : Geometry) (f : Far) (envelope xs : List Float) : Type 0 where
   pub all : HearsAll slack g f envelope xs

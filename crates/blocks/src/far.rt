@@ -12,7 +12,7 @@ ghost use Prim.Native.Nat.{_%_, _≤_, _<_};
 ghost use lib.ListN.{length, set};
 ghost use Rattle.coarse.specs.Blocks.{hearAll, levelOf};
 ghost use Rattle.coarse.specs.Calls.{farRefusal, pushedFar};
-ghost use Rattle.blocks.specs.Ready.{HearsAll, HearsPart, HearsFour, HearsRun, RunLength};
+ghost use Rattle.blocks.specs.Ready.{HearsAll, HearsPart, HearsTwo, HearsFour, HearsRun, RunLength};
 
 fn refusal(slack: u32, scan: Scan, envelope: &[f32], samples: &[f32]) -> u8
     ensures { λ r. ⌜ r ≡ farRefusal slack scan (now (envelope .entry)) (now (samples .entry)) ⌝ }
@@ -47,7 +47,7 @@ fn hear_part(slack: u32, g: Geometry, f: Far, envelope: &mut [f32], samples: &[f
     ensures far { λ r. ⌜ r ≡ hearAll slack g (record { far = f; envelope = now (envelope .entry) }) (now (samples .entry)) .far ⌝ }
     ensures envelope { λ r. ⌜ now (envelope .exit) ≡ hearAll slack g (record { far = f; envelope = now (envelope .entry) }) (now (samples .entry)) .envelope ⌝ }
 {
-    let sum = sums::run(f.sum, samples);
+    let sum = sums::run(f.sum, samples, 0, samples.len());
     let count = f.count + samples.len() as u64;
     let accepted = f.accepted + samples.len() as u64;
     if count != g.decimation {
@@ -63,6 +63,35 @@ fn hear_part(slack: u32, g: Geometry, f: Far, envelope: &mut [f32], samples: &[f
     store(g, envelope, block, sum);
     Far {
         next,
+        sum: 0.0,
+        count: 0,
+        accepted,
+    }
+}
+
+// Samples that complete the block under way, and with the rest of them go on with the next one, or complete it too.
+fn hear_two(slack: u32, g: Geometry, f: Far, envelope: &mut [f32], samples: &[f32]) -> Far
+    requires { ⌜ HearsTwo slack g f (now envelope) (now samples) ⌝ }
+    ensures far { λ r. ⌜ r ≡ hearAll slack g (record { far = f; envelope = now (envelope .entry) }) (now (samples .entry)) .far ⌝ }
+    ensures envelope { λ r. ⌜ now (envelope .exit) ≡ hearAll slack g (record { far = f; envelope = now (envelope .entry) }) (now (samples .entry)) .envelope ⌝ }
+{
+    let rest = (g.decimation - f.count) as usize;
+    let sums = sums::two(f.sum, samples, rest);
+    let count = (samples.len() - rest) as u64;
+    let accepted = f.accepted + samples.len() as u64;
+    let after = f.next + 1;
+    store(g, envelope, f.next, sums.first);
+    if count != g.decimation {
+        return Far {
+            next: after,
+            sum: sums.second,
+            count,
+            accepted,
+        };
+    }
+    store(g, envelope, after, sums.second);
+    Far {
+        next: after + 1,
         sum: 0.0,
         count: 0,
         accepted,
@@ -99,10 +128,13 @@ fn hear_run(slack: u32, g: Geometry, f: Far, envelope: &mut [f32], samples: &[f3
     if f.count + samples.len() as u64 <= g.decimation {
         return hear_part(slack, g, f, envelope, samples);
     }
+    if f.count + samples.len() as u64 <= 2 * g.decimation {
+        return hear_two(slack, g, f, envelope, samples);
+    }
     hear_four(slack, g, f, envelope, samples)
 }
 
-// How many of the samples left make the next run: four whole blocks, or what there is of the block under way.
+// How many of the samples left make the next run: four whole blocks, or what there is of the block under way and the one after it.
 fn run_length(g: Geometry, f: Far, left: usize) -> usize
     requires { ⌜ (f .count < g .decimation) × (g .decimation ≤ 192) × (0 < left) ⌝ }
     ensures { λ r. ⌜ RunLength g f left r ⌝ }
@@ -112,7 +144,7 @@ fn run_length(g: Geometry, f: Far, left: usize) -> usize
             return 4 * g.decimation as usize;
         }
     }
-    let rest = (g.decimation - f.count) as usize;
+    let rest = (2 * g.decimation - f.count) as usize;
     if rest < left {
         return rest;
     }

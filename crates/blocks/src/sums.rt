@@ -2,25 +2,69 @@
 use crate::level;
 ghost use mathlib.Core.Path.{_≡_};
 ghost use mathlib.Core.Bool.{true};
-ghost use Prim.Native.Nat.{_+_};
+ghost use Prim.Native.Nat.{_+_, _-_, _≤_};
 ghost use lib.ListN.{length};
 ghost use Rattle.floats.specs.Functions.{zero64};
 ghost use Rattle.folds.specs.Sums.{allFinite};
 ghost use Rattle.blocks.specs.Ready.{FourBlocks};
 ghost use Rattle.blocks.specs.Onward.{onward};
 
-// A sum goes on with samples of its block.
-pub fn run(start: f64, samples: &[f32]) -> f64
-    requires { ⌜ allFinite (now samples) ≡ true ⌝ }
-    ensures { λ r. ⌜ r ≡ onward start (now (samples .entry)) 0 (length (now (samples .entry))) ⌝ }
+// A sum goes on with the n samples from `from` on.
+pub fn run(start: f64, samples: &[f32], from: usize, n: usize) -> f64
+    requires { ⌜ (from + n ≤ length (now samples)) × (allFinite (now samples) ≡ true) ⌝ }
+    ensures { λ r. ⌜ r ≡ onward start (now (samples .entry)) from n ⌝ }
 {
     let mut sum = start;
     let mut i = 0;
-    while i < samples.len() {
-        sum = level::summed(sum, samples[i]);
+    while i < n {
+        sum = level::summed(sum, samples[from + i]);
         i += 1;
     }
     sum
+}
+
+pub struct TwoSums {
+    pub first: f64,
+    pub second: f64,
+}
+
+fn lesser(m: usize, n: usize) -> usize
+    ensures { λ r. ⌜ (r ≤ m) × (r ≤ n) ⌝ }
+{
+    if m < n { m } else { n }
+}
+
+// Two sums side by side, of n samples each: one goes on from `start`, the other begins at sample m.
+fn abreast(start: f64, samples: &[f32], m: usize, n: usize) -> TwoSums
+    requires { ⌜ (m + n ≤ length (now samples)) × (allFinite (now samples) ≡ true) ⌝ }
+    ensures { λ r. ⌜ r ≡ record { first = onward start (now (samples .entry)) 0 n; second = onward zero64 (now (samples .entry)) m n } ⌝ }
+{
+    let mut first = start;
+    let mut next = 0.0;
+    let mut i = 0;
+    while i < n {
+        first = level::summed(first, samples[i]);
+        next = level::summed(next, samples[m + i]);
+        i += 1;
+    }
+    TwoSums {
+        first,
+        second: next,
+    }
+}
+
+// The first m samples go on from `start`; the others begin anew. Side by side as far as both reach.
+pub fn two(start: f64, samples: &[f32], m: usize) -> TwoSums
+    requires { ⌜ (m ≤ length (now samples)) × (allFinite (now samples) ≡ true) ⌝ }
+    ensures { λ r. ⌜ r ≡ record { first = onward start (now (samples .entry)) 0 m; second = onward zero64 (now (samples .entry)) m (length (now (samples .entry)) - m) } ⌝ }
+{
+    let others = samples.len() - m;
+    let n = lesser(m, others);
+    let begun = abreast(start, samples, m, n);
+    TwoSums {
+        first: run(begun.first, samples, n, m - n),
+        second: run(begun.second, samples, m + n, others - n),
+    }
 }
 
 pub struct FourSums {
