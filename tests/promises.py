@@ -2,6 +2,7 @@
 
 Every name in the tables of PROMISES.md must be there: `crate: \\`name\\`` in that crate's specs, src, proofs or must-fail edits, `file:line: \\`name\\`` in that line.
 DETERMINED.md lists each public call with the theorems that its contract admits one result; `promises.py --write` writes it anew.
+Every call of that list has two wrong bodies in tests/wrong, which tests/wrong/try tries.
 """
 
 import pathlib
@@ -116,6 +117,28 @@ def determined(crates):
     return "\n".join(lines) + "\n", left_out
 
 
+def wrong_bodies(crate, which):
+    """The wrong bodies in a file of tests/wrong, as (module and call, what it does). A method's type is left out."""
+    file = ROOT / "tests" / "wrong" / crate / which
+    for name, says in re.findall(r"^# ([\w:]+?)(?: < [\w:]+)?: (.*)", file.read_text() if file.exists() else "", re.M):
+        parts = [part for part in name.split("::") if part[0].islower()]
+        yield "::".join(parts if len(parts) > 1 else ["lib"] + parts), says
+
+
+def missing_wrong_bodies(crates):
+    """The calls that have no wrong body in one of the two files of their crate, and what of these files docs/WRONG.md does not show as refused."""
+    page = (ROOT / "docs" / "WRONG.md").read_text()
+    for crate in CALLED:
+        calls = [f"{path.stem}::{call}" for call, path in public_calls(crate)] if crate in crates else []
+        for which in ("first", "second"):
+            file = f"tests/wrong/{crate}/{which}"
+            have = dict(wrong_bodies(crate, which))
+            yield from (f"{file} has no wrong body of {call}" for call in calls if call not in have)
+            yield from (f"{file}: {call} is no public call" for call in have if call not in calls)
+            unseen = [call for call, says in have.items() if not re.search(rf"{re.escape(says)} \| `[^`]", page)]
+            yield from (f"{file}: docs/WRONG.md does not show that {call} is refused: run tests/wrong/try --write {crate}" for call in unseen)
+
+
 def main():
     crates = known_crates()
     page, left_out = determined(crates)
@@ -124,6 +147,7 @@ def main():
         listing.write_text(page)
     wrong = list(missing_names((ROOT / "docs" / "PROMISES.md").read_text(), crates))
     wrong += [f"{call}: no theorem says that its contract admits one result" for call in left_out]
+    wrong += missing_wrong_bodies(crates)
     if listing.read_text() != page:
         wrong.append("docs/DETERMINED.md is not what the tree gives: run tests/promises.py --write")
     for line in wrong:
