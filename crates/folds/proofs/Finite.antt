@@ -19,7 +19,7 @@ pub none-tested : (xs : List Float) → Tested xs 0 true
 unfolding pick
 none-tested xs = refl
 
-next : (xs : List Float) (i : ℕ) → i < length xs → allFinite (drop i xs) ≡ both (finite (at xs i)) (allFinite (drop (i + 1) xs))
+pub next : (xs : List Float) (i : ℕ) → i < length xs → allFinite (drop i xs) ≡ both (finite (at xs i)) (allFinite (drop (i + 1) xs))
 unfolding allFinite
 next xs i h = rw (add-one, drop-cons xs i nan)
 

@@ -5,3 +5,4 @@ pub mod Peaks
 pub mod Greatest
 pub mod Finite
 pub mod Clearing
+pub mod Quarters

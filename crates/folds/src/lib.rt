@@ -1,8 +1,10 @@
 // Sums, tables and searches over lent slices, each folded in one fixed order.
 ghost use mathlib.Core.Path.{_≡_};
-ghost use Prim.Native.Nat.{_+_};
+ghost use mathlib.Core.Bool.{true};
+ghost use Prim.Native.Nat.{ℕ, _+_, _<_, _≤_};
 ghost use lib.ListN.{length};
-ghost use Rattle.folds.specs.Sums.{zeros, sumOf, prefixSums, prefixSquares, allFinite};
+ghost use lib.Ieee.Scale.{finite};
+ghost use Rattle.folds.specs.Sums.{zeros, sumOf, prefixSums, prefixSquares, allFinite, at};
 ghost use Rattle.folds.specs.Search.{searchDown};
 
 // The largest value above 0 and where it stands.
@@ -66,8 +68,8 @@ pub fn search_down(xs: &[f64]) -> Peak
 
 // ---- tests and clearing
 
-// No NaN and no infinity among them. The loop has no early way out, so that several values are tested at once.
-pub fn all_finite(xs: &[f32]) -> bool
+// No NaN and no infinity among them, value by value. The loop has no early way out, so that several values are tested at once.
+fn each_finite(xs: &[f32]) -> bool
     ensures { λ r. ⌜ r ≡ allFinite (now (xs .entry)) ⌝ }
 {
     let mut fine = true;
@@ -79,6 +81,33 @@ pub fn all_finite(xs: &[f32]) -> bool
         i += 1;
     }
     fine
+}
+
+// Four values at once, one of each quarter: a sum that is finite had finite parts. The sum of finite values may be infinite, so that a no says nothing.
+fn quarters_finite(xs: &[f32], q: usize) -> bool
+    requires { ⌜ q + q + q + q ≤ length (now xs) ⌝ }
+    ensures { λ r. ⌜ (r ≡ true → (j : ℕ) → j < q + q + q + q → finite (at (now (xs .entry)) j) ≡ true) ⌝ }
+{
+    let mut fine = true;
+    let mut i = 0;
+    while i < q {
+        if !floats::is_finite32(xs[i] + xs[q + i] + xs[q + q + i] + xs[q + q + q + i]) {
+            fine = false;
+        }
+        i += 1;
+    }
+    fine
+}
+
+// No NaN and no infinity among them.
+pub fn all_finite(xs: &[f32]) -> bool
+    ensures { λ r. ⌜ r ≡ allFinite (now (xs .entry)) ⌝ }
+{
+    let q = xs.len() / 4;
+    if quarters_finite(xs, q) {
+        return each_finite(&xs[q + q + q + q..]);
+    }
+    each_finite(xs)
 }
 
 pub fn all_finite64(xs: &[f64]) -> bool

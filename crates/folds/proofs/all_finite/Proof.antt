@@ -1,65 +1,63 @@
--- `folds::all_finite` meets its contract: the invariant is `Tested`.
-use Prim.Native.Nat.{_≤_, _<_, _-_}
-use mathlib.Core.Path.{_∙_, sym}
-use mathlib.Core.Logic.{⊎-elim}
+-- `folds::all_finite` meets its contract: where the quarters are finite the rest decides.
+use mathlib.Core.Path.{_∙_}
 use native.Mathlib.Omega.{arith}
-use lib.ListN.{length}
 use borrow.Author.Needs.{needs}
-use borrow.Author.Tests.{not-true, not-false}
-use Rattle.folds.proofs.Finite.{Tested, none-tested, is-finite, not-finite, all-tested}
+use Rattle.folds.proofs.Quarters.{rest-decides-lent}
 use Rattle.folds.proofs.all_finite.Statement.{statement}
 use Rattle.folds.proofs.all_finite.Tie as tie
 
-abbrev Inv-loop : tie.InvT-loop
-Inv-loop xs fine₀ i₀ fine i = (i ≤ length xs) × Tested xs i fine
+quarters-finite-requires : tie.Need-quarters-finite-requires
+quarters-finite-requires c κs = search needs
 
-abbrev μ-loop : tie.MeasureT-loop
-μ-loop xs fine₀ i₀ fine i = length xs - i
+add-each-finite : tie.Need-add-each-finite
+add-each-finite c = search needs
 
-loop-holds : tie.Need-loop-holds Inv-loop μ-loop
-loop-holds c = (omega arith, none-tested _)
+add-each-finite-2 : tie.Need-add-each-finite-2
+add-each-finite-2 c = search needs
 
-mul-is-finite32 : tie.Need-mul-is-finite32 Inv-loop μ-loop
-mul-is-finite32 c = search needs
+add-each-finite-3 : tie.Need-add-each-finite-3
+add-each-finite-3 c = search needs
 
-shared-slice-read-is-finite32 : tie.Need-shared-slice-read-is-finite32 Inv-loop μ-loop
-shared-slice-read-is-finite32 c = search needs
+mul-each-finite : tie.Need-mul-each-finite
+mul-each-finite c = search needs
 
-is-finite32-requires : tie.Need-is-finite32-requires Inv-loop μ-loop
-is-finite32-requires c κs = search needs
+sub-each-finite : tie.Need-sub-each-finite
+sub-each-finite c = search needs
 
-add-i : tie.Need-add-i Inv-loop μ-loop
-add-i c = search needs
+part-each-finite-start : tie.Need-part-each-finite-start
+part-each-finite-start c = search needs
 
-loop-less : tie.Need-loop-less Inv-loop μ-loop
-loop-less c = omega arith
+part-each-finite-end : tie.Need-part-each-finite-end
+part-each-finite-end c = search needs
 
-loop-again : tie.Need-loop-again Inv-loop μ-loop
-loop-again c =
-    let l = c .before .before .before .before .loop in
-    let xs = c .before .before .before .before .before .before .args .xs .now in
-    let e = c .before .is-finite32 .ensures in (
-      omega arith,
-      ⊎-elim
-          (λ w. rw (w .1) (not-finite xs (l .i) (l .fine) (omega arith) (sym e ∙ not-true _ (w .0 .taken)) (l .inv .1)))
-          (λ w. rw (w .1) (is-finite xs (l .i) (l .fine) (omega arith) (sym e ∙ not-false _ (w .0 .left)) (l .inv .1)))
-          (c .if1 .came),
-    )
+each-finite-requires : tie.Need-each-finite-requires
+each-finite-requires c κs = search needs
 
-returns : tie.Need-returns Inv-loop μ-loop
-returns c = all-tested _ (c .before .loop .i) (c .before .loop .fine) (omega arith) (c .before .loop .inv .1)
+returns : tie.Need-returns
+returns c =
+    let xs = c .before .before .before .before .before .args .xs .now in
+    let all = c .before .before .before .quarters-finite .ensures (c .before .before .if1 .taken) in
+    c .each-finite .ensures ∙ rest-decides-lent xs _ (omega arith) all
+
+each-finite-requires-2 : tie.Need-each-finite-requires-2
+each-finite-requires-2 c κs = search needs
+
+returns-2 : tie.Need-returns-2
+returns-2 c = search needs
 
 pub all-finite-spec : {M : Type 1} → statement M
 all-finite-spec =
     tie.close
     (tie.spec
-    Inv-loop
-    μ-loop
-    loop-holds
-    mul-is-finite32
-    shared-slice-read-is-finite32
-    is-finite32-requires
-    add-i
-    loop-less
-    loop-again
-    returns)
+    quarters-finite-requires
+    add-each-finite
+    add-each-finite-2
+    add-each-finite-3
+    mul-each-finite
+    sub-each-finite
+    part-each-finite-start
+    part-each-finite-end
+    each-finite-requires
+    returns
+    each-finite-requires-2
+    returns-2)
