@@ -17,7 +17,7 @@ use Rattle.folds.proofs.Finite.{next}
 
 -- ---- one sum
 
-sum-finite : (f : Format) (x y : Float) → finite (add f x y) ≡ true → (finite x ≡ true) × (finite y ≡ true)
+pub sum-finite : (f : Format) (x y : Float) → finite (add f x y) ≡ true → (finite x ≡ true) × (finite y ≡ true)
 unfolding add
 sum-finite f nan y h = absurd (false≢true h)
 sum-finite f (inf s) nan h = absurd (false≢true h)

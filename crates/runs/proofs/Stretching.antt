@@ -2,20 +2,21 @@
 use Prim.Native.Nat.{ℕ, zero, suc, _+_, _-_, _*_, _≤_, _<_}
 use mathlib.Core.Path.{_≡_, refl, sym, ap, _∙_, subst}
 use mathlib.Core.List.{List, [], _∷_, _++_}
-use mathlib.Core.Bool.{Bool, true, false, not, false≢true}
+use mathlib.Core.Bool.{Bool, true, false, not}
 use native.Mathlib.Nat.{add-zero, zero-add}
 use native.Mathlib.Numerals.{add-one}
 use native.Mathlib.Omega.{arith}
 use lib.Dec.{ltb, eqb}
 use lib.ListN.{length, drop, drop-of-length-le}
 use lib.Seq.{drop-cons}
-use lib.Ieee.{Float, nan, inf, fin, binary64, add}
+use lib.Ieee.{Float, nan, inf, fin, binary64}
 use lib.Ieee.Scale.{finite}
 use borrow.Author.Tests.{lt-ltb, ne-eqb}
 use Rattle.answers.specs.Pick.{pick, both, either, pick-true, pick-false}
 use Rattle.answers.specs.Numbers.{limit}
 use Rattle.floats.specs.Functions.{magnitude}
 use Rattle.folds.specs.Sums.{at}
+use Rattle.folds.proofs.Quarters.{sum-finite}
 use Rattle.coarse.specs.State.{idle}
 use Rattle.coarse.specs.Blocks.{Seen, gather, dropped, summed}
 use Rattle.coarse.specs.Calls.{withNear}
@@ -29,16 +30,16 @@ use Rattle.runs.proofs.Passing.{Steady, goes-on, keeps}
 
 -- ---- a finite sum had finite parts
 
+bare-finite : (x : Float) → finite (magnitude x) ≡ true → finite x ≡ true
+unfolding magnitude
+bare-finite nan h = h
+bare-finite (inf s) h = h
+bare-finite (fin s m e) h = refl
+
 summed-finite : (sum x : Float) → finite (summed sum x) ≡ true → (finite sum ≡ true) × (finite x ≡ true)
-unfolding add magnitude
-summed-finite nan x h = absurd (false≢true h)
-summed-finite (inf s) nan h = absurd (false≢true h)
-summed-finite (inf true) (inf t) h = absurd (false≢true h)
-summed-finite (inf false) (inf t) h = absurd (false≢true h)
-summed-finite (inf s) (fin t m e) h = absurd (false≢true h)
-summed-finite (fin s m e) nan h = absurd (false≢true h)
-summed-finite (fin s m e) (inf t) h = absurd (false≢true h)
-summed-finite (fin s m e) (fin t n d) h = (refl, refl)
+summed-finite sum x h =
+    let parts = sum-finite binary64 sum (magnitude x) h in
+    (parts .0, bare-finite x (parts .1))
 
 total-finite : (sum : Float) (xs : List Float) → finite (totalOf sum xs) ≡ true → finite sum ≡ true
 unfolding totalOf
