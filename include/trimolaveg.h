@@ -230,7 +230,8 @@ uint32_t tmv_scan_push_near(uint64_t *state, size_t state_len, float *levels, si
 /* Near samples of consecutive far indices, from `first` on, in one call: each is taken, dropped or ignored as tmv_scan_push_near would, up to the first one that
  * it would refuse or that would fill the frame. values: 1 word, how many samples were gone through; the next one, if there is one, is then pushed by itself, which says what
  * it is. The call itself refuses only 2, a state of other than 24 words or values of other than 1; where anything else is wrong it answers TMV_DONE, and that 0 samples
- * were gone through. Then nothing but the value is written. */
+ * were gone through. Then nothing but the value is written. So a host never calls it twice for the same sample: after a run it pushes the next sample by tmv_scan_push_near, which
+ * gives the refusal number, or says that the frame is full. */
 uint32_t tmv_scan_push_near_run(uint64_t *state, size_t state_len, float *levels, size_t levels_len, const float *samples, size_t samples_len, uint64_t first, uint64_t *values, size_t values_len);
 
 /* Scores the full near frame, and consumes it. values: 2 words. Refuses also: 7 if no frame is full; 4 if a near level, a written bin of the window or a lag sum
