@@ -34,15 +34,8 @@ module _ (p : Play) (out after : List ℕ) (told : Told) (left : Buffers) (room 
   place : told .at ≡ length (logText (p .lines))
   place = omega (arith, s .tells .text .place)
 
-  pub closed : told .ends ≡ true → logged (record { session = told .session; progress = progress.Ended (told .at) }) left after ≡ played p out
-  closed h =
-      let n = length (logText (p .lines)) in
-      rw (stands, place, s .leaves, s .tells .keeps, pick-true (p .ends) (progress.Ended n) (progress.Wrote n) (sym (s .tells .closes) ∙ h))
-
-  pub unclosed : told .ends ≡ false → logged (record { session = told .session; progress = progress.Wrote (told .at) }) left after ≡ played p out
-  unclosed h =
-      let n = length (logText (p .lines)) in
-      rw (stands, place, s .leaves, s .tells .keeps, pick-false (p .ends) (progress.Ended n) (progress.Wrote n) (sym (s .tells .closes) ∙ h))
+  pub as-told : logged (record { session = told .session; progress = pick (told .ends) (progress.Ended (told .at)) (progress.Wrote (told .at)) }) left after ≡ played p out
+  as-told = rw (stands, place, s .leaves, s .tells .keeps, s .tells .closes)
 
 module _ (h : Header) (l : Lengths) (e : ℕ) (s : Session) (b : Buffers) (k : Entry) (xs : List Float) (out : List ℕ) where
   pub no-room : length out / 76 ≤ length xs → logged (record { session = s; progress = progress.NoRoom }) b out ≡ evented h l e s b k xs out
@@ -57,8 +50,5 @@ module _ (h : Header) (l : Lengths) (e : ℕ) (s : Session) (b : Buffers) (k : E
   fits r = omega (arith, few h l e s b k xs, text-short (stepped h l e s b k xs .lines))
 
   module _ (told : Told) (left : Buffers) (after : List ℕ) (r : length xs < length out / 76) (p : Plays (stepped h l e s b k xs) out 0 told left after) where
-    pub has-ended : told .ends ≡ true → logged (record { session = told .session; progress = progress.Ended (told .at) }) left after ≡ evented h l e s b k xs out
-    has-ended t = closed (stepped h l e s b k xs) out after told left (fits r) p t ∙ sym (is-played r)
-
-    pub has-written : told .ends ≡ false → logged (record { session = told .session; progress = progress.Wrote (told .at) }) left after ≡ evented h l e s b k xs out
-    has-written t = unclosed (stepped h l e s b k xs) out after told left (fits r) p t ∙ sym (is-played r)
+    pub has-told : logged (record { session = told .session; progress = pick (told .ends) (progress.Ended (told .at)) (progress.Wrote (told .at)) }) left after ≡ evented h l e s b k xs out
+    has-told = as-told (stepped h l e s b k xs) out after told left (fits r) p ∙ sym (is-played r)

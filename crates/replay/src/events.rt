@@ -88,11 +88,24 @@ fn with_frame(session: Session, scan: Scan) -> Session
     }
 }
 
-fn with_tracker(session: Session, tracker: Tracker, cycles: u64) -> Session
-    ensures { λ r. ⌜ r ≡ withTracker session tracker cycles ⌝ }
+// After an event: what it used of the samples is anew too.
+fn next_with_scan(session: Session, used: Used, scan: Scan) -> Session
+    ensures { λ r. ⌜ r ≡ withScan (withUsed session used) scan ⌝ }
+{
+    let tracker = session.tracker;
+    Session {
+        scan,
+        tracker,
+        frames: session.frames,
+        cycles: session.cycles,
+        used,
+    }
+}
+
+fn next_with_tracker(session: Session, used: Used, tracker: Tracker, cycles: u64) -> Session
+    ensures { λ r. ⌜ r ≡ withTracker (withUsed session used) tracker cycles ⌝ }
 {
     let scan = session.scan;
-    let used = session.used;
     Session {
         scan,
         tracker,
@@ -104,42 +117,50 @@ fn with_tracker(session: Session, tracker: Tracker, cycles: u64) -> Session
 
 // ---- events of the scan and of the tracker
 
-// A far push, a rearm or a discard has changed the scan, or was refused.
-fn changed(event: u32, session: Session, change: Changed, out: &mut [u8]) -> Told
+fn log_change(event: u32, answer: Change, out: &mut [u8]) -> usize
     requires { ⌜ 76 ≤ length (now out) ⌝ }
-    ensures { λ r. ⌜ Tells (changeLines event (change .answer)) (withScan session (change .scan)) false (now (out .entry)) 0 r (now (out .exit)) ⌝ }
+    ensures { λ r. ⌜ Put (now (out .entry)) 0 (logText (changeLines event answer)) (now (out .exit)) r ⌝ }
 {
-    let scan = change.scan;
-    let next = with_scan(session, scan);
-    let answer = change.answer;
     match answer {
-        Change::Refused(number) => {
-            let at = log(out, 0, Line::Refused(event, number));
-            Told {
-                session: next,
-                at,
-                ends: false,
-            }
-        }
-        Change::Done => Told {
-            session: next,
-            at: 0,
-            ends: false,
-        },
+        Change::Refused(number) => log(out, 0, Line::Refused(event, number)),
+        Change::Done => 0,
     }
 }
 
-fn cycle(event: u32, session: Session, alignment: Samples, outcome: Outcome, out: &mut [u8]) -> Told
+// A far push, a rearm or a discard has changed the scan, or was refused.
+fn changed(event: u32, session: Session, used: Used, change: Changed, out: &mut [u8]) -> Told
     requires { ⌜ 76 ≤ length (now out) ⌝ }
-    ensures { λ r. ⌜ Tells (cycleLine event (session .cycles) (cycled (session .tracker) alignment outcome .verdict) ∷ []) (withTracker session (cycled (session .tracker) alignment outcome .tracker) (cyclesAfter (session .cycles) (cycled (session .tracker) alignment outcome .verdict))) false (now (out .entry)) 0 r (now (out .exit)) ⌝ }
+    ensures { λ r. ⌜ Tells (changeLines event (change .answer)) (withScan (withUsed session used) (change .scan)) false (now (out .entry)) 0 r (now (out .exit)) ⌝ }
+{
+    let scan = change.scan;
+    let answer = change.answer;
+    let at = log_change(event, answer, out);
+    Told {
+        session: next_with_scan(session, used, scan),
+        at,
+        ends: false,
+    }
+}
+
+fn cycle(
+    event: u32,
+    session: Session,
+    used: Used,
+    alignment: Samples,
+    outcome: Outcome,
+    out: &mut [u8],
+) -> Told
+    requires { ⌜ 76 ≤ length (now out) ⌝ }
+    ensures { λ r. ⌜ Tells (cycleLine event (session .cycles) (cycled (session .tracker) alignment outcome .verdict) ∷ []) (withTracker (withUsed session used) (cycled (session .tracker) alignment outcome .tracker) (cyclesAfter (session .cycles) (cycled (session .tracker) alignment outcome .verdict))) false (now (out .entry)) 0 r (now (out .exit)) ⌝ }
 {
     let before = session.tracker;
     let c = before.on_cycle(alignment, outcome);
     let tracker = c.tracker;
     let verdict = c.verdict;
     let at = log(out, 0, words::cycle_line(event, session.cycles, verdict));
-    let next = with_tracker(
+    let next = next_with_tracker(
         session,
+        used,
         tracker,
         words::cycles_after(session.cycles, verdict),
     );
@@ -150,15 +171,15 @@ fn cycle(event: u32, session: Session, alignment: Samples, outcome: Outcome, out
     }
 }
 
-fn discontinuity(event: u32, session: Session, out: &mut [u8]) -> Told
+fn discontinuity(event: u32, session: Session, used: Used, out: &mut [u8]) -> Told
     requires { ⌜ 76 ≤ length (now out) ⌝ }
-    ensures { λ r. ⌜ Tells (answerLines event (seamed (session .tracker) .answer)) (withTracker session (seamed (session .tracker) .tracker) (session .cycles)) false (now (out .entry)) 0 r (now (out .exit)) ⌝ }
+    ensures { λ r. ⌜ Tells (answerLines event (seamed (session .tracker) .answer)) (withTracker (withUsed session used) (seamed (session .tracker) .tracker) (session .cycles)) false (now (out .entry)) 0 r (now (out .exit)) ⌝ }
 {
     let before = session.tracker;
     let c = before.on_discontinuity();
     let tracker = c.tracker;
     let answer = c.answer;
-    let next = with_tracker(session, tracker, session.cycles);
+    let next = next_with_tracker(session, used, tracker, session.cycles);
     match answer {
         Answer::Refused(number) => {
             let at = log(out, 0, Line::Refused(event, number));
@@ -442,6 +463,7 @@ fn goes_on(told: Told) -> Told
 fn play(
     number: u32,
     session: Session,
+    used: Used,
     event: Event,
     samples: &[f32],
     envelope: &mut [f32],
@@ -454,18 +476,19 @@ fn play(
     out: &mut [u8],
 ) -> Told
     requires { ⌜ (76 ≤ length (now out)) × (76 * length (now samples) ≤ length (now out)) ⌝ }
-    ensures { λ r. ⌜ Plays (eventPlayed number session (lent (now (envelope .entry)) (now (levels .entry)) (now (window .entry)) (now (prefix .entry)) (now (squares .entry)) (now (scores .entry)) (now («lag_sums» .entry))) event (now (samples .entry))) (now (out .entry)) 0 r (lent (now (envelope .exit)) (now (levels .exit)) (now (window .exit)) (now (prefix .exit)) (now (squares .exit)) (now (scores .exit)) (now («lag_sums» .exit))) (now (out .exit)) ⌝ }
+    ensures { λ r. ⌜ Plays (eventPlayed number (withUsed session used) (lent (now (envelope .entry)) (now (levels .entry)) (now (window .entry)) (now (prefix .entry)) (now (squares .entry)) (now (scores .entry)) (now («lag_sums» .entry))) event (now (samples .entry))) (now (out .entry)) 0 r (lent (now (envelope .exit)) (now (levels .exit)) (now (window .exit)) (now (prefix .exit)) (now (squares .exit)) (now (scores .exit)) (now («lag_sums» .exit))) (now (out .exit)) ⌝ }
 {
     let before = session.scan;
     match event {
         Event::Far { count: _ } => {
             let change = push_whole(before, envelope, samples);
-            changed(number, session, change, out)
+            changed(number, session, used, change, out)
         }
         Event::Near { count: _, first } => {
+            let next = with_used(session, used);
             let told = near(
                 number,
-                session,
+                next,
                 samples,
                 first,
                 envelope,
@@ -481,28 +504,42 @@ fn play(
         }
         Event::Rearm => {
             let change = scan::rearm(before, lag_sums);
-            changed(number, session, change, out)
+            changed(number, session, used, change, out)
         }
         Event::DiscardNear => {
             let change = scan::discard_near(before, lag_sums);
-            changed(number, session, change, out)
+            changed(number, session, used, change, out)
         }
-        Event::Unconfident => cycle(number, session, Samples(0), Outcome::Unconfident, out),
+        Event::Unconfident => cycle(number, session, used, Samples(0), Outcome::Unconfident, out),
         Event::Interior { alignment, delay } => {
             let outcome = Outcome::Candidate {
                 delay: Samples(delay),
                 interior: true,
             };
-            cycle(number, session, Samples(alignment as u64), outcome, out)
+            cycle(
+                number,
+                session,
+                used,
+                Samples(alignment as u64),
+                outcome,
+                out,
+            )
         }
         Event::Edge { alignment, delay } => {
             let outcome = Outcome::Candidate {
                 delay: Samples(delay),
                 interior: false,
             };
-            cycle(number, session, Samples(alignment as u64), outcome, out)
+            cycle(
+                number,
+                session,
+                used,
+                Samples(alignment as u64),
+                outcome,
+                out,
+            )
         }
-        Event::Discontinuity => discontinuity(number, session, out),
+        Event::Discontinuity => discontinuity(number, session, used, out),
     }
 }
 
@@ -546,23 +583,21 @@ pub fn step(
             let admission = recording::admit(header, lengths, used, event);
             match admission {
                 Admission::Lacking => bad(number, session, out),
-                Admission::Enough(after) => {
-                    let next = with_used(session, after);
-                    play(
-                        number,
-                        next,
-                        event,
-                        samples,
-                        envelope,
-                        levels,
-                        window,
-                        prefix,
-                        squares,
-                        scores,
-                        lag_sums,
-                        out,
-                    )
-                }
+                Admission::Enough(after) => play(
+                    number,
+                    session,
+                    after,
+                    event,
+                    samples,
+                    envelope,
+                    levels,
+                    window,
+                    prefix,
+                    squares,
+                    scores,
+                    lag_sums,
+                    out,
+                ),
             }
         }
     }

@@ -12,6 +12,8 @@ use recording::Used;
 use tracker::Tracker;
 ghost use mathlib.Core.Path.{_≡_};
 ghost use Rattle.lines.specs.declared.Line.the-variants as line;
+ghost use Rattle.answers.specs.Pick.{pick};
+ghost use Rattle.replay.specs.declared.Progress.the-variants as progress;
 ghost use Rattle.scoring.specs.Observing.{lent};
 ghost use Rattle.replay.specs.Log;
 ghost use Rattle.replay.specs.Library.{beginning, begins, logged, evented};
@@ -103,6 +105,15 @@ pub fn start(
     Begun::Ready(starting::new_session(header.rate, header.ceiling))
 }
 
+fn progress_of(ends: bool, at: usize) -> Progress
+    ensures { λ r. ⌜ r ≡ pick ends (progress.Ended at) (progress.Wrote at) ⌝ }
+{
+    if ends {
+        return Progress::Ended(at);
+    }
+    Progress::Wrote(at)
+}
+
 // Event `number`, with its samples: the lines that it causes stand at the start of out.
 pub fn event(
     header: Header,
@@ -145,15 +156,8 @@ pub fn event(
         out,
     );
     let next = told.session;
-    let ends = told.ends;
-    if ends {
-        return Stepped {
-            session: next,
-            progress: Progress::Ended(told.at),
-        };
-    }
     Stepped {
         session: next,
-        progress: Progress::Wrote(told.at),
+        progress: progress_of(told.ends, told.at),
     }
 }

@@ -1,6 +1,6 @@
--- `event` meets its contract: no room, an end, or more to come.
+-- `event` meets its contract: no room, or what was told.
 use borrow.Author.Needs.{needs}
-use Rattle.replay.proofs.Eventing.{no-room, has-ended, has-written}
+use Rattle.replay.proofs.Eventing.{no-room, has-told}
 use Rattle.replay.proofs.event.Statement.{statement}
 use Rattle.replay.proofs.event.Tie as tie
 
@@ -9,6 +9,9 @@ returns c = no-room _ _ _ _ _ _ _ _ (c .if1 .taken)
 
 step-requires : tie.Need-step-requires
 step-requires c κs = search needs
+
+progress-of-requires : tie.Need-progress-of-requires
+progress-of-requires c κs = search needs
 
 same-length : tie.Need-same-length
 same-length c = search needs
@@ -37,36 +40,7 @@ same-length-8 c = search needs
 returns-2 : tie.Need-returns-2
 returns-2 c =
     let c1 = c .before .before .before .before .before .before .before .before .before .before .before .before .before .before .before .before .before .before in
-    has-ended _ _ _ _ _ _ _ _ _ _ _ (c1 .before .before .before .before .before .before .before .before .before .if1 .left) (c1 .step .ensures) (c .if2 .taken)
-
-same-length-9 : tie.Need-same-length-9
-same-length-9 c = search needs
-
-same-length-10 : tie.Need-same-length-10
-same-length-10 c = search needs
-
-same-length-11 : tie.Need-same-length-11
-same-length-11 c = search needs
-
-same-length-12 : tie.Need-same-length-12
-same-length-12 c = search needs
-
-same-length-13 : tie.Need-same-length-13
-same-length-13 c = search needs
-
-same-length-14 : tie.Need-same-length-14
-same-length-14 c = search needs
-
-same-length-15 : tie.Need-same-length-15
-same-length-15 c = search needs
-
-same-length-16 : tie.Need-same-length-16
-same-length-16 c = search needs
-
-returns-3 : tie.Need-returns-3
-returns-3 c =
-    let c1 = c .before .before .before .before .before .before .before .before .before .before .before .before .before .before .before .before .before .before in
-    has-written _ _ _ _ _ _ _ _ _ _ _ (c1 .before .before .before .before .before .before .before .before .before .if1 .left) (c1 .step .ensures) (c .if2 .left)
+    rw (c .progress-of .ensures) (has-told _ _ _ _ _ _ _ _ _ _ _ (c1 .before .before .before .before .before .before .before .before .before .if1 .left) (c1 .step .ensures))
 
 pub event-spec : {M : Type 1} → statement M
 event-spec =
@@ -74,6 +48,7 @@ event-spec =
     (tie.spec
     returns
     step-requires
+    progress-of-requires
     same-length
     same-length-2
     same-length-3
@@ -82,13 +57,4 @@ event-spec =
     same-length-6
     same-length-7
     same-length-8
-    returns-2
-    same-length-9
-    same-length-10
-    same-length-11
-    same-length-12
-    same-length-13
-    same-length-14
-    same-length-15
-    same-length-16
-    returns-3)
+    returns-2)

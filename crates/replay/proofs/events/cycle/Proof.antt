@@ -2,7 +2,7 @@
 use borrow.Author.Needs.{needs}
 use Prim.Native.Nat.{ℕ}
 use mathlib.Core.Path.{refl, ap, _∙_}
-use Rattle.replay.specs.Events.{withTracker}
+use Rattle.replay.specs.Events.{withTracker, withUsed}
 use Rattle.replay.proofs.events.cycle.Statement.{statement}
 use Rattle.replay.proofs.events.cycle.Tie as tie
 
@@ -18,8 +18,8 @@ log-requires c κs = search needs
 cycles-after-requires : tie.Need-cycles-after-requires
 cycles-after-requires c κs = search needs
 
-with-tracker-requires : tie.Need-with-tracker-requires
-with-tracker-requires c κs = search needs
+next-with-tracker-requires : tie.Need-next-with-tracker-requires
+next-with-tracker-requires c κs = search needs
 
 same-length : tie.Need-same-length
 same-length c = search needs
@@ -28,7 +28,7 @@ returns : tie.Need-returns
 returns c =
     rw (← c .before .before .before .before .before .before .before .before .on-cycle .ensures)
     (record {
-      keeps = c .with-tracker .ensures ∙ ap (λ (n : ℕ). withTracker (c .before .before .before .before .before .before .before .before .before .before .before .args .session) (c .before .before .before .before .before .before .before .before .on-cycle .result .tracker) n) (c .before .cycles-after .ensures);
+      keeps = c .next-with-tracker .ensures ∙ ap (λ (n : ℕ). withTracker (withUsed (c .before .before .before .before .before .before .before .before .before .before .before .args .session) (c .before .before .before .before .before .before .before .before .before .before .before .args .used)) (c .before .before .before .before .before .before .before .before .on-cycle .result .tracker) n) (c .before .cycles-after .ensures);
       closes = refl;
       text = rw (← c .before .before .before .before .before .cycle-line .ensures) (c .before .before .before .before .log .ensures .0);
     })
@@ -41,6 +41,6 @@ cycle-spec =
     cycle-line-requires
     log-requires
     cycles-after-requires
-    with-tracker-requires
+    next-with-tracker-requires
     same-length
     returns)

@@ -17,8 +17,11 @@ changed-requires c κs = search needs
 enum-known-event : tie.Need-enum-known-event
 enum-known-event c = search needs
 
+with-used-requires : tie.Need-with-used-requires
+with-used-requires c κs = search needs
+
 near-requires : tie.Need-near-requires
-near-requires c κs = search needs
+near-requires c κs = search (needs, c .before .before .before .before .before .before .before .before .before .before .before .before .before .before .before .before .before .before .before .before .before .before .pre)
 
 goes-on-requires : tie.Need-goes-on-requires
 goes-on-requires c κs = search needs
@@ -50,8 +53,8 @@ cycle-requires c κs = search needs
 enum-known-event-2 : tie.Need-enum-known-event-2
 enum-known-event-2 c = search needs
 
-cast-t59 : tie.Need-cast-t59
-cast-t59 c = search needs
+cast-t61 : tie.Need-cast-t61
+cast-t61 c = search needs
 
 cycle-requires-2 : tie.Need-cycle-requires-2
 cycle-requires-2 c κs = search needs
@@ -59,8 +62,8 @@ cycle-requires-2 c κs = search needs
 enum-known-event-3 : tie.Need-enum-known-event-3
 enum-known-event-3 c = search needs
 
-cast-t63 : tie.Need-cast-t63
-cast-t63 c = search needs
+cast-t65 : tie.Need-cast-t65
+cast-t65 c = search needs
 
 cycle-requires-3 : tie.Need-cycle-requires-3
 cycle-requires-3 c κs = search needs
@@ -109,7 +112,7 @@ returns-2 : tie.Need-returns-2
 unfolding eventPlayed
 returns-2 c =
     let p = c .before .before .before .before .before .before .before .before .before .before .before .before .before .before .before .near .ensures in
-    rw (c .before .before .before .before .before .before .before .before .before .before .before .before .before .before .before .before .before .before .before .before .before .before .before .before .before .event .given .1, c .goes-on .ensures) (record { tells = record { keeps = p .tells .keeps; closes = refl; text = p .tells .text }; leaves = p .leaves })
+    rw (c .before .before .before .before .before .before .before .before .before .before .before .before .before .before .before .before .before .before .before .before .before .before .before .before .before .before .event .given .1, c .goes-on .ensures, ← c .before .before .before .before .before .before .before .before .before .before .before .before .before .before .before .before .before .before .before .before .before .before .before .before .with-used .ensures) (record { tells = record { keeps = p .tells .keeps; closes = refl; text = p .tells .text }; leaves = p .leaves })
 
 same-length-11 : tie.Need-same-length-11
 same-length-11 c = search needs
@@ -167,6 +170,7 @@ play-spec =
     push-whole-requires
     changed-requires
     enum-known-event
+    with-used-requires
     near-requires
     goes-on-requires
     enum-told-2
@@ -178,10 +182,10 @@ play-spec =
     enum-told-4
     cycle-requires
     enum-known-event-2
-    cast-t59
+    cast-t61
     cycle-requires-2
     enum-known-event-3
-    cast-t63
+    cast-t65
     cycle-requires-3
     enum-told-5
     discontinuity-requires

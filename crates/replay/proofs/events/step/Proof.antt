@@ -26,11 +26,8 @@ bad-requires-2 c κs = search needs
 enum-known-admission : tie.Need-enum-known-admission
 enum-known-admission c = search needs
 
-with-used-requires : tie.Need-with-used-requires
-with-used-requires c κs = search needs
-
 play-requires : tie.Need-play-requires
-play-requires c κs = search (needs, c .before .before .before .before .before .before .before .before .before .before .before .before .before .before .before .before .before .before .before .before .before .before .before .before .before .before .pre)
+play-requires c κs = search (needs, c .before .before .before .before .before .before .before .before .before .before .before .before .before .before .before .before .before .before .before .before .before .before .before .before .before .pre)
 
 same-length : tie.Need-same-length
 same-length c = search needs
@@ -74,8 +71,8 @@ returns-3 : tie.Need-returns-3
 unfolding stepped
 returns-3 c =
     let c1 = c .before .before .before .before .before .before .before .before .before .before .before .before .before .before .before .before in
-    let c2 = c1 .before .before .before .before .before .before .before .before .before .before .before .before .before in
-    rw (c2 .before .before .before .entry .given .1, ← c2 .admit .ensures, c1 .before .before .before .before .before .before .before .before .before .before .before .admission .given .1, ← c1 .before .before .before .before .before .before .before .before .before .with-used .ensures) (c1 .play .ensures)
+    let c2 = c1 .before .before .before .before .before .before .before .before .before .before .before .before in
+    rw (c2 .before .before .before .entry .given .1, ← c2 .admit .ensures, c1 .before .before .before .before .before .before .before .before .before .before .admission .given .1) (c1 .play .ensures)
 
 pub step-spec : {M : Type 1} → statement M
 step-spec =
@@ -88,7 +85,6 @@ step-spec =
     enum-told-2
     bad-requires-2
     enum-known-admission
-    with-used-requires
     play-requires
     same-length
     returns
