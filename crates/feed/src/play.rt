@@ -8,6 +8,7 @@ use recording::Header;
 use recording::Lengths;
 use replay::Progress;
 use replay::Session;
+use replay::Stepped;
 ghost use mathlib.Core.Path.{_≡_};
 ghost use Prim.Native.Nat.{_+_, _≤_, _<_};
 ghost use lib.ListN.{length};
@@ -19,13 +20,6 @@ pub struct Played {
     pub session: Session,
     pub sink: Sink,
     pub ends: bool,
-}
-
-// The same of one event, but for the inputs.
-struct Turned {
-    session: Session,
-    sink: Sink,
-    ends: bool,
 }
 
 // Bytes read so far. An event has read what it needs where the input has it, so that these lengths admit it just as the whole input's would.
@@ -66,16 +60,15 @@ fn ended(progress: Progress) -> bool {
     }
 }
 
-// An event handed to the library with its count samples. Its lines go to out behind what stands there.
+// An event handed to the library with its count samples. Its lines go to out from at on.
 fn turn(
     header: Header,
     lengths: Lengths,
     number: u32,
     session: Session,
     entry: Entry,
-    count: usize,
-    to: Sink,
     samples: &[f32],
+    count: usize,
     envelope: &mut [f32],
     levels: &mut [f32],
     window: &mut [f32],
@@ -84,13 +77,11 @@ fn turn(
     scores: &mut [f64],
     lag_sums: &mut [f64],
     out: &mut [u8],
-) -> Turned
-    requires { ⌜ (count ≤ length (now samples)) × (to .at ≤ length (now out)) ⌝ }
-    ensures { λ r. ⌜ r .sink .at ≤ length (now (out .exit)) ⌝ }
+    at: usize,
+) -> Stepped
+    requires { ⌜ (count ≤ length (now samples)) × (at ≤ length (now out)) ⌝ }
 {
-    let at = to.at;
-    let len = out.len();
-    let stepped = replay::event(
+    replay::event(
         header,
         lengths,
         number,
@@ -105,79 +96,21 @@ fn turn(
         scores,
         lag_sums,
         &mut out[at..],
-    );
-    let next = stepped.session;
-    let progress = stepped.progress;
-    Turned {
-        session: next,
-        sink: sink::until(to, end(progress, at, len)),
-        ends: ended(progress),
-    }
+    )
 }
 
-// Event number: its bytes and samples are read, and it is played.
-fn step(
-    header: Header,
-    number: u32,
-    inputs: Inputs,
-    session: Session,
-    to: Sink,
-    bytes: &mut [u8],
-    samples: &mut [f32],
-    envelope: &mut [f32],
-    levels: &mut [f32],
-    window: &mut [f32],
-    prefix: &mut [f64],
-    squares: &mut [f64],
-    scores: &mut [f64],
-    lag_sums: &mut [f64],
-    out: &mut [u8],
-) -> Played
-    requires { ⌜ (AllWithin inputs) × (196608 ≤ length (now bytes)) × (4096 ≤ length (now samples)) × (to .at ≤ length (now out)) ⌝ }
-    ensures { λ r. ⌜ (AllWithin (r .inputs)) × (r .sink .at ≤ length (now (out .exit))) ⌝ }
+fn so_far(inputs: Inputs, session: Session, sink: Sink, ends: bool) -> Played
+    ensures { λ r. ⌜ (r .inputs ≡ inputs) × (r .sink ≡ sink) ⌝ }
 {
-    let used = session.used;
-    let gathered = gather::gather(header, used, inputs, bytes, samples);
-    let after = gathered.inputs;
-    let entry = gathered.entry;
-    let count = gathered.count;
-    if broken(after, to) {
-        return Played {
-            inputs: after,
-            session,
-            sink: to,
-            ends: true,
-        };
-    }
-    let turned = turn(
-        header,
-        lengths(after),
-        number,
-        session,
-        entry,
-        count,
-        to,
-        samples,
-        envelope,
-        levels,
-        window,
-        prefix,
-        squares,
-        scores,
-        lag_sums,
-        out,
-    );
-    let next = turned.session;
-    let sink = turned.sink;
     Played {
-        inputs: after,
-        session: next,
+        inputs,
+        session,
         sink,
-        ends: turned.ends,
+        ends,
     }
 }
 
-// All events, until one is bad.
+// All events, until one is bad, a read fails or the sink does.
 pub fn events(
     header: Header,
     first: Played,
@@ -195,22 +128,30 @@ pub fn events(
     requires { ⌜ (AllWithin (first .inputs)) × (196608 ≤ length (now bytes)) × (4096 ≤ length (now samples)) × (311372 ≤ length (now out)) × (first .sink .at ≤ length (now out)) ⌝ }
     ensures { λ r. ⌜ (AllWithin (r .inputs)) × (r .sink .at ≤ length (now (out .exit))) ⌝ }
 {
-    let mut played = first;
+    let mut inputs = first.inputs;
+    let mut session = first.session;
+    let mut sink = first.sink;
     let mut number: u32 = 0;
     while number < header.events {
-        let inputs = played.inputs;
-        let session = played.session;
-        let sink = played.sink;
         sink::tell(sink, number, header.events);
-        let to = sink::room(sink, out);
-        played = step(
+        sink = sink::room(sink, out);
+        let used = session.used;
+        let gathered = gather::gather(header, used, inputs, bytes, samples);
+        inputs = gathered.inputs;
+        if broken(inputs, sink) {
+            return so_far(inputs, session, sink, true);
+        }
+        let entry = gathered.entry;
+        let count = gathered.count;
+        let at = sink.at;
+        let stepped = turn(
             header,
+            lengths(inputs),
             number,
-            inputs,
             session,
-            to,
-            bytes,
+            entry,
             samples,
+            count,
             envelope,
             levels,
             window,
@@ -219,11 +160,15 @@ pub fn events(
             scores,
             lag_sums,
             out,
+            at,
         );
-        if played.ends {
-            return played;
+        session = stepped.session;
+        let progress = stepped.progress;
+        sink = sink::until(sink, end(progress, at, out.len()));
+        if ended(progress) {
+            return so_far(inputs, session, sink, true);
         }
         number += 1;
     }
-    played
+    so_far(inputs, session, sink, false)
 }

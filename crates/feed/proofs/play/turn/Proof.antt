@@ -4,12 +4,6 @@ use mathlib.Core.Path.{sym}
 use borrow.Author.Needs.{needs}
 use Rattle.feed.proofs.play.turn.Statement.{statement}
 use Rattle.feed.proofs.play.turn.Tie as tie
-use Rattle.feed.proofs.play.turn.Reads as reads
-use Rattle.feed.proofs.play.turn.Lts as lts
-use Rattle.feed.proofs.play.end.Reads as end-reads
-use Rattle.feed.proofs.play.ended.Reads as ended-reads
-use Rattle.feed.proofs.sink.until.Reads as until-reads
-use Rattle.replay.proofs.event.Reads as event-reads
 
 slice-aggregate-event : tie.Need-slice-aggregate-event
 slice-aggregate-event c = sym (length-take-le _ _ (c .before .before .before .before .before .before .before .before .before .before .pre .0))
@@ -25,15 +19,6 @@ part-event-end c = search needs
 
 event-requires : tie.Need-event-requires
 event-requires c κs = search needs
-
-end-requires : tie.Need-end-requires
-end-requires c κs = c .before .before .before .before .before .before .before .before .before .before .before .before .before .before .before .before .before .before .before .before .before .before .before .before .before .before .before .before .before .before .before .before .before .before .before .before .pre .1
-
-until-requires : tie.Need-until-requires
-until-requires c κs = search needs
-
-ended-requires : tie.Need-ended-requires
-ended-requires c κs = search needs
 
 same-length : tie.Need-same-length
 same-length c = search needs
@@ -71,9 +56,6 @@ turn-spec =
     part-event-start
     part-event-end
     event-requires
-    end-requires
-    until-requires
-    ended-requires
     same-length
     same-length-2
     same-length-3
