@@ -62,12 +62,11 @@ fn with_scan(session: Session, scan: Scan) -> Session
     ensures { λ r. ⌜ r ≡ withScan session scan ⌝ }
 {
     let tracker = session.tracker;
-    let frames = session.frames;
     let used = session.used;
     Session {
         scan,
         tracker,
-        frames,
+        frames: session.frames,
         cycles: session.cycles,
         used,
     }
@@ -93,10 +92,11 @@ fn next_with_scan(session: Session, used: Used, scan: Scan) -> Session
     ensures { λ r. ⌜ r ≡ withScan (withUsed session used) scan ⌝ }
 {
     let tracker = session.tracker;
+    let frames = session.frames;
     Session {
         scan,
         tracker,
-        frames: session.frames,
+        frames,
         cycles: session.cycles,
         used,
     }
