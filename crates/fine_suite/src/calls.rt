@@ -195,6 +195,17 @@ fn rescan(fine: Fine, retained: &[f32], far: &[f32], call: Call) -> Done {
     }
 }
 
+// A call that is lent the near frame at most.
+fn near_call(fine: Fine, near: &mut [f32], call: Call) -> Done {
+    if call.kind == 2 {
+        return push_part(fine, near, call);
+    }
+    if call.kind == 16 {
+        return push_part(fine, near, call);
+    }
+    change(fine, call)
+}
+
 // The call of a record up to the peak rule.
 pub fn called(
     fine: Fine,
@@ -203,17 +214,11 @@ pub fn called(
     far: &[f32; 65536],
     call: Call,
 ) -> Done {
-    if call.kind == 2 {
-        return push_part(fine, near, call);
-    }
-    if call.kind == 16 {
-        return push_part(fine, near, call);
-    }
     if call.kind == 3 {
         return gate_part(fine, near, retained, far, call);
     }
     if call.kind == 4 {
         return rescan(fine, retained, far, call);
     }
-    change(fine, call)
+    near_call(fine, near, call)
 }

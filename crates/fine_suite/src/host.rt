@@ -2,38 +2,23 @@
 use crate::records::Call;
 use vectors::buffers;
 
-fn write_far(far: &mut [f32], call: Call) {
+// Call `whole` fills the buffer, and call `entry` writes one entry of it. A new stage finds it all 0.
+fn write_one(out: &mut [f32], call: Call, whole: u64, entry: u64) {
     let signal = call.signal;
     if call.kind == 1 {
-        folds::clear32(far);
+        folds::clear32(out);
         return;
     }
-    if call.kind == 11 {
-        signal.fill(far, call.place);
+    if call.kind == whole {
+        signal.fill(out, call.place);
         return;
     }
-    if call.kind == 12 {
-        buffers::store32(far, call.count, call.number);
+    if call.kind == entry {
+        buffers::store32(out, call.count, call.number);
     }
 }
 
-fn write_array(array: &mut [f32], call: Call) {
-    let signal = call.signal;
-    if call.kind == 1 {
-        folds::clear32(array);
-        return;
-    }
-    if call.kind == 13 {
-        signal.fill(array, call.place);
-        return;
-    }
-    if call.kind == 14 {
-        buffers::store32(array, call.count, call.number);
-    }
-}
-
-// A new stage finds both all 0.
 pub fn write(far: &mut [f32; 65536], array: &mut [f32; 65536], call: Call) {
-    write_far(far, call);
-    write_array(array, call);
+    write_one(far, call, 11, 12);
+    write_one(array, call, 13, 14);
 }

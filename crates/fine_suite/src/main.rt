@@ -7,6 +7,8 @@ mod peak; // the peak rule
 mod compare; // the state, the lock and the buffers after a call
 
 use fine::Fine;
+use peak::Searched;
+use records::Call;
 use vectors::Tally;
 ghost use mathlib.Core.Path.{_≡_};
 ghost use lib.ListN.{length};
@@ -14,6 +16,21 @@ ghost use lib.ListN.{length};
 struct Run {
     fine: Fine,
     tally: Tally,
+}
+
+// What the call of a record comes to.
+fn answered(
+    fine: Fine,
+    near: &mut [f32; 65536],
+    retained: &mut [f32; 65536],
+    far: &mut [f32; 65536],
+    array: &mut [f32; 65536],
+    arrays: i32,
+    call: Call,
+) -> Searched {
+    host::write(&mut *far, &mut *array, call);
+    let done = calls::called(fine, near, retained, far, call);
+    peak::after(done, arrays, array, call)
 }
 
 fn try_call(
@@ -28,11 +45,9 @@ fn try_call(
     let fine = run.fine;
     let tally = run.tally;
     let call = records::call_of(bytes);
-    host::write(&mut *far, &mut *array, call);
-    let called = calls::called(fine, &mut *near, &mut *retained, far, call);
-    let done = peak::after(called, arrays, array, call);
-    let same = compare::same(done, near, retained, bytes);
+    let done = answered(fine, &mut *near, &mut *retained, far, array, arrays, call);
     let next = done.fine;
+    let same = compare::same(done, near, retained, bytes);
     Run {
         fine: next,
         tally: tally.saw(done.locked, same),
@@ -94,9 +109,7 @@ fn try_calls(
     run.tally
 }
 
-fn floats65536() -> [f32; 65536]
-    ensures { λ r. ⌜ 65536 ≡ length r ⌝ }
-{
+fn floats65536() -> [f32; 65536] {
     [0.0; 65536]
 }
 
