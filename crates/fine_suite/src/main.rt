@@ -33,6 +33,22 @@ fn answered(
     peak::after(done, arrays, array, call)
 }
 
+// One more call, held against its record.
+fn held(
+    tally: Tally,
+    done: Searched,
+    near: &[f32; 65536],
+    retained: &[f32; 65536],
+    bytes: &[u8; 128],
+) -> Run {
+    let fine = done.fine;
+    let same = compare::same(done, near, retained, bytes);
+    Run {
+        fine,
+        tally: tally.saw(done.locked, same),
+    }
+}
+
 fn try_call(
     run: Run,
     near: &mut [f32; 65536],
@@ -46,12 +62,7 @@ fn try_call(
     let tally = run.tally;
     let call = records::call_of(bytes);
     let done = answered(fine, &mut *near, &mut *retained, far, array, arrays, call);
-    let next = done.fine;
-    let same = compare::same(done, near, retained, bytes);
-    Run {
-        fine: next,
-        tally: tally.saw(done.locked, same),
-    }
+    held(tally, done, near, retained, bytes)
 }
 
 fn blank_record() -> [u8; 128]
@@ -78,6 +89,15 @@ fn next_call(
     try_call(run, near, retained, far, array, arrays, &record)
 }
 
+fn start() -> Run {
+    let made = Fine::new(1);
+    let fine = made.fine;
+    Run {
+        fine,
+        tally: Tally::new(),
+    }
+}
+
 // A file of at most 65,536 calls.
 fn try_calls(
     near: &mut [f32; 65536],
@@ -87,12 +107,7 @@ fn try_calls(
     calls: i32,
     arrays: i32,
 ) -> Tally {
-    let made = Fine::new(1);
-    let fine = made.fine;
-    let mut run = Run {
-        fine,
-        tally: Tally::new(),
-    };
+    let mut run = start();
     let mut left: u32 = 65536;
     while 0 < left {
         left = left - 1;

@@ -9,11 +9,8 @@ Inv-loop near₀ retained₀ far₀ array₀ calls arrays run₀ left₀ near re
 abbrev μ-loop : tie.MeasureT-loop
 μ-loop near₀ retained₀ far₀ array₀ calls arrays run₀ left₀ near retained far array run left = left
 
-new-requires : tie.Need-new-requires Inv-loop μ-loop
-new-requires c κs = search needs
-
-new-requires-2 : tie.Need-new-requires-2 Inv-loop μ-loop
-new-requires-2 c κs = search needs
+start-requires : tie.Need-start-requires Inv-loop μ-loop
+start-requires c κs = search needs
 
 loop-holds : tie.Need-loop-holds Inv-loop μ-loop
 loop-holds c = search needs
@@ -39,8 +36,7 @@ try-calls-spec =
     (tie.spec
     Inv-loop
     μ-loop
-    new-requires
-    new-requires-2
+    start-requires
     loop-holds
     sub-left
     next-call-requires
