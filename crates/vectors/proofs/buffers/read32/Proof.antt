@@ -1,19 +1,22 @@
--- `fine_suite::blank` is safe and ends.
+-- `vectors::buffers::read32` is safe and ends.
 use Prim.Native.Nat.{_-_}
 use mathlib.Core.Path.{_≡_}
 use lib.ListN.{length}
 use borrow.Author.Needs.{needs}
-use Rattle.fine_suite.proofs.blank.Statement.{statement}
-use Rattle.fine_suite.proofs.blank.Tie as tie
+use Rattle.vectors.proofs.buffers.read32.Statement.{statement}
+use Rattle.vectors.proofs.buffers.read32.Tie as tie
 
 abbrev Inv-loop : tie.InvT-loop
-Inv-loop out₀ i₀ out i = length out ≡ length out₀
+Inv-loop fd out₀ i₀ out i = length out ≡ length out₀
 
 abbrev μ-loop : tie.MeasureT-loop
-μ-loop out₀ i₀ out i = length out₀ - i
+μ-loop fd out₀ i₀ out i = length out₀ - i
 
 loop-holds : tie.Need-loop-holds Inv-loop μ-loop
 loop-holds c = search needs
+
+next32-requires : tie.Need-next32-requires Inv-loop μ-loop
+next32-requires c κs = search needs
 
 mul-out : tie.Need-mul-out Inv-loop μ-loop
 mul-out c = search needs
@@ -36,13 +39,14 @@ same-length c = search needs
 returns : tie.Need-returns Inv-loop μ-loop
 returns c = search needs
 
-pub blank-spec : {M : Type 1} → statement M
-blank-spec =
+pub read32-spec : {M : Type 1} → statement M
+read32-spec =
     tie.close
     (tie.spec
     Inv-loop
     μ-loop
     loop-holds
+    next32-requires
     mul-out
     slice-write-out
     add-i
