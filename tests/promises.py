@@ -118,6 +118,9 @@ def determined(crates):
         "Each public call's contract admits one result, and one list in each lent buffer. The theorems stand in `proofs/Determined.antt` of the call's crate; each is",
         "about the contract alone, so it fails when somebody weakens an `ensures`. This page is written by `tests/promises.py --write` and held to the tree by `./test`.",
         "",
+        "One thing no contract here can tell: which of the NaN patterns stands in a lent float buffer. The logic has one NaN, so that an element which stays a NaN is fixed up to its payload. No call",
+        "writes a NaN; `compare/face` holds every lent buffer to its bits, with signalling and payload NaNs in all of them (docs/DECISIONS.md says what it would cost to have this in the contracts).",
+        "",
         "| Call | Theorems |",
         "|---|---|",
     ]
@@ -163,7 +166,8 @@ def main():
         wrong.append("docs/DETERMINED.md is not what the tree gives: run tests/promises.py --write")
     for line in wrong:
         print(f"promises: {line}")
-    print(f"promises: {page.count(chr(10)) - 7} calls determined, {len(wrong)} things wrong")
+    calls = len(re.findall(r"^\| \w+: ", page, re.M))
+    print(f"promises: {calls} calls determined, {len(wrong)} things wrong")
     sys.exit(1 if wrong else 0)
 
 
