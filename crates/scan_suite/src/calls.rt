@@ -1,5 +1,13 @@
 // The calls of records.
-use crate::records;
+use crate::buffers;
+use crate::buffers::Envelope;
+use crate::buffers::Lags;
+use crate::buffers::Lengths;
+use crate::buffers::Levels;
+use crate::buffers::Sums;
+use crate::buffers::Window;
+use crate::made_up;
+use crate::made_up::low32;
 use crate::records::Call;
 use coarse::Change;
 use coarse::Changed;
@@ -12,6 +20,7 @@ use coarse::Scoring;
 use coarse::Taking;
 use coarse::Took;
 use coarse::Verdict;
+use vectors::buffers::at_most;
 ghost use mathlib.Core.Path.{_≡_};
 ghost use lib.ListN.{length};
 
@@ -51,7 +60,7 @@ fn push_filled(scan: Scan, envelope: &mut [f32], samples: &mut [f32], call: Call
 }
 
 fn push_counted(scan: Scan, envelope: &mut [f32], samples: &mut [f32], call: Call) -> Done {
-    let n = records::at_most(call.count as u64, samples.len());
+    let n = at_most(call.count as u64, samples.len());
     push_filled(scan, envelope, &mut samples[..n], call)
 }
 
@@ -60,34 +69,11 @@ fn push_far(scan: Scan, envelope: &mut [f32], call: Call) -> Done {
     push_counted(scan, envelope, &mut samples, call)
 }
 
-fn blank(window: &mut [f32], prefix: &mut [f64], squares: &mut [f64], scores: &mut [f64]) {
-    folds::clear32(window);
-    folds::clear64(prefix);
-    folds::clear64(squares);
-    folds::clear64(scores);
-}
-
-fn new_scan(envelope: &mut [f32], sums: &mut [f64], call: Call) -> Done {
-    let ceiling = (call.number % 0x1_0000_0000) as u32;
-    changed(scan::new(call.count, ceiling, envelope, sums))
-}
-
-// Every buffer is all 0. The making itself writes the envelope and the lag sums.
-pub fn make(
-    envelope: &mut [f32],
-    window: &mut [f32],
-    prefix: &mut [f64],
-    squares: &mut [f64],
-    scores: &mut [f64],
-    sums: &mut [f64],
-    call: Call,
-) -> Done {
-    blank(window, prefix, squares, scores);
-    new_scan(envelope, sums, call)
-}
-
 // A call that is lent the envelope and the lag sums at most.
-pub fn change(scan: Scan, envelope: &mut [f32], sums: &mut [f64], call: Call) -> Done {
+fn change(scan: Scan, envelope: &mut [f32], sums: &mut [f64], call: Call) -> Done {
+    if call.kind == 1 {
+        return changed(scan::new(call.count, low32(call.number), envelope, sums));
+    }
     if call.kind == 2 {
         return push_far(scan, envelope, call);
     }
@@ -98,6 +84,21 @@ pub fn change(scan: Scan, envelope: &mut [f32], sums: &mut [f64], call: Call) ->
         return changed(scan::discard_near(scan, sums));
     }
     changed(scan::reset(scan, envelope, sums))
+}
+
+// The lengths that the scan has, or that the one to be made will have.
+fn lengths_for(scan: Scan, call: Call) -> Lengths {
+    if call.kind == 1 {
+        return buffers::lengths_of(call.count, low32(call.number));
+    }
+    buffers::lengths_of(scan.geometry.rate, scan.geometry.ceiling)
+}
+
+fn change_lent(scan: Scan, envelope: &mut [f32], sums: &mut [f64], call: Call) -> Done {
+    let lengths = lengths_for(scan, call);
+    let kept = at_most(lengths.envelope, envelope.len());
+    let lags = at_most(lengths.lags, sums.len());
+    change(scan, &mut envelope[..kept], &mut sums[..lags], call)
 }
 
 // ---- near samples
@@ -123,7 +124,7 @@ fn push_near(scan: Scan, levels: &mut [f32], sample: f32, index: u64) -> Done {
 }
 
 // A run of near samples; its answer is that of the last.
-pub fn push_run(scan: Scan, levels: &mut [f32], call: Call) -> Done {
+fn push_run(scan: Scan, levels: &mut [f32], call: Call) -> Done {
     let signal = call.signal;
     let mut done = Done { scan, answer: 0 };
     let mut i: u64 = 0;
@@ -135,6 +136,12 @@ pub fn push_run(scan: Scan, levels: &mut [f32], call: Call) -> Done {
         i += 1;
     }
     done
+}
+
+fn push_lent(scan: Scan, levels: &mut [f32], call: Call) -> Done {
+    let lengths = lengths_for(scan, call);
+    let frame = at_most(lengths.frame, levels.len());
+    push_run(scan, &mut levels[..frame], call)
 }
 
 // ---- a frame to be scored
@@ -185,7 +192,7 @@ fn scored_number(answer: Scoring, v: Verdict) -> u64 {
     }
 }
 
-pub fn score(
+fn score(
     scan: Scan,
     envelope: &[f32],
     levels: &[f32],
@@ -212,4 +219,101 @@ pub fn score(
         scan: next,
         answer: scored_number(answer, verdict),
     }
+}
+
+fn score_lent(
+    scan: Scan,
+    envelope: &[f32],
+    levels: &[f32],
+    window: &mut [f32],
+    prefix: &mut [f64],
+    squares: &mut [f64],
+    scores: &mut [f64],
+    sums: &mut [f64],
+) -> Done {
+    let lengths = buffers::lengths_of(scan.geometry.rate, scan.geometry.ceiling);
+    let kept = at_most(lengths.envelope, envelope.len());
+    let frame = at_most(lengths.frame, levels.len());
+    let bins = at_most(lengths.window, window.len());
+    let sums_of = at_most(lengths.sums, prefix.len());
+    let squares_of = at_most(lengths.sums, squares.len());
+    let scored = at_most(lengths.lags, scores.len());
+    let summed = at_most(lengths.lags, sums.len());
+    score(
+        scan,
+        &envelope[..kept],
+        &levels[..frame],
+        &mut window[..bins],
+        &mut prefix[..sums_of],
+        &mut squares[..squares_of],
+        &mut scores[..scored],
+        &mut sums[..summed],
+    )
+}
+
+// ---- the call of a record
+
+// A call that is lent no scratch.
+fn other(
+    scan: Scan,
+    envelope: &mut Envelope,
+    levels: &mut Levels,
+    sums: &mut Lags,
+    call: Call,
+) -> Done {
+    if call.kind == 3 {
+        return push_lent(scan, levels, call);
+    }
+    if call.kind <= 7 {
+        return change_lent(scan, envelope, sums, call);
+    }
+    made_up::write(envelope, levels, sums, call);
+    Done {
+        scan: made_up::state(scan, call),
+        answer: 0,
+    }
+}
+
+// A scan begins with every buffer all 0. Its making itself writes the envelope and the lag sums.
+fn blank(
+    window: &mut Window,
+    prefix: &mut Sums,
+    squares: &mut Sums,
+    scores: &mut Lags,
+    call: Call,
+) {
+    if call.kind != 1 {
+        return;
+    }
+    folds::clear32(window);
+    folds::clear64(prefix);
+    folds::clear64(squares);
+    folds::clear64(scores);
+}
+
+pub fn called(
+    scan: Scan,
+    envelope: &mut Envelope,
+    levels: &mut Levels,
+    window: &mut Window,
+    prefix: &mut Sums,
+    squares: &mut Sums,
+    scores: &mut Lags,
+    sums: &mut Lags,
+    call: Call,
+) -> Done {
+    if call.kind == 4 {
+        return score_lent(
+            scan,
+            envelope,
+            levels,
+            window,
+            prefix,
+            squares,
+            scores,
+            sums,
+        );
+    }
+    blank(window, prefix, squares, scores, call);
+    other(scan, envelope, levels, sums, call)
 }

@@ -1,5 +1,14 @@
 // Whether a scan and its buffers stand as a record says.
+use crate::buffers;
+use crate::buffers::Envelope;
+use crate::buffers::Lags;
+use crate::buffers::Lengths;
+use crate::buffers::Levels;
+use crate::buffers::Sums;
+use crate::buffers::Window;
 use crate::records;
+use crate::records::Record;
+use crate::whole;
 use coarse::CountReport;
 use coarse::Far;
 use coarse::FlagReport;
@@ -10,57 +19,51 @@ use coarse::Region;
 use coarse::RegionReport;
 use coarse::Scan;
 use scan::reports;
+use vectors::buffers::hash32_first;
+use vectors::buffers::hash64_first;
 use vectors::patterns;
-ghost use Prim.Native.Nat.{_+_, _≤_};
-ghost use lib.ListN.{length};
 
 // ---- the state
 
-fn same_far(far: Far, bytes: &[u8], at: usize) -> bool
-    requires { ⌜ at + 160 ≤ length (now bytes) ⌝ }
-{
-    if far.next != vectors::number(bytes, at + 48, 8) {
+fn same_far(far: Far, record: &Record) -> bool {
+    if far.next != vectors::number(record, 48, 8) {
         return false;
     }
-    if patterns::bits64(far.sum) != vectors::number(bytes, at + 56, 8) {
+    if patterns::bits64(far.sum) != vectors::number(record, 56, 8) {
         return false;
     }
-    if far.accepted != vectors::number(bytes, at + 64, 8) {
+    if far.accepted != vectors::number(record, 64, 8) {
         return false;
     }
-    far.count == vectors::number(bytes, at + 72, 4)
+    far.count == vectors::number(record, 72, 4)
 }
 
-fn same_near(near: Near, bytes: &[u8], at: usize) -> bool
-    requires { ⌜ at + 160 ≤ length (now bytes) ⌝ }
-{
-    if near.len != vectors::number(bytes, at + 76, 4) {
+fn same_near(near: Near, record: &Record) -> bool {
+    if near.len != vectors::number(record, 76, 4) {
         return false;
     }
-    if patterns::bits64(near.sum) != vectors::number(bytes, at + 80, 8) {
+    if patterns::bits64(near.sum) != vectors::number(record, 80, 8) {
         return false;
     }
-    if near.first != vectors::number(bytes, at + 88, 8) {
+    if near.first != vectors::number(record, 88, 8) {
         return false;
     }
-    near.count == vectors::number(bytes, at + 96, 4)
+    near.count == vectors::number(record, 96, 4)
 }
 
-pub fn same_state(scan: Scan, bytes: &[u8], at: usize) -> bool
-    requires { ⌜ at + 160 ≤ length (now bytes) ⌝ }
-{
+pub fn same_state(scan: Scan, record: &Record) -> bool {
     let far = scan.far;
     let near = scan.near;
-    if !same_far(far, bytes, at) {
+    if !same_far(far, record) {
         return false;
     }
-    if !same_near(near, bytes, at) {
+    if !same_near(near, record) {
         return false;
     }
-    if scan.verdict.banked != vectors::number32(bytes, at + 100) {
+    if scan.verdict.banked != vectors::number32(record, 100) {
         return false;
     }
-    patterns::bits32(scan.verdict.last) == vectors::number32(bytes, at + 44)
+    patterns::bits32(scan.verdict.last) == vectors::number32(record, 44)
 }
 
 // ---- the reports
@@ -72,19 +75,14 @@ fn same_flag(report: FlagReport, is: bool) -> bool {
     }
 }
 
-fn same_flags(scan: Scan, bytes: &[u8], at: usize) -> bool
-    requires { ⌜ at + 160 ≤ length (now bytes) ⌝ }
-{
-    if !same_flag(
-        reports::beyond_ceiling(scan),
-        records::flagged(bytes, at, 1),
-    ) {
+fn same_flags(scan: Scan, record: &Record) -> bool {
+    if !same_flag(reports::beyond_ceiling(scan), records::flagged(record, 1)) {
         return false;
     }
-    if !same_flag(reports::exhausted(scan), records::flagged(bytes, at, 2)) {
+    if !same_flag(reports::exhausted(scan), records::flagged(record, 2)) {
         return false;
     }
-    same_flag(reports::finished(scan), records::flagged(bytes, at, 8))
+    same_flag(reports::finished(scan), records::flagged(record, 8))
 }
 
 fn same_count(report: CountReport, n: u32) -> bool {
@@ -127,101 +125,100 @@ fn same_region(report: RegionReport, there: bool, delay: u64, correlation: u64) 
     }
 }
 
-pub fn same_reports(scan: Scan, bytes: &[u8], at: usize) -> bool
-    requires { ⌜ at + 160 ≤ length (now bytes) ⌝ }
-{
-    if !same_flags(scan, bytes, at) {
+pub fn same_reports(scan: Scan, record: &Record) -> bool {
+    if !same_flags(scan, record) {
         return false;
     }
-    if !same_count(reports::frames(scan), vectors::number32(bytes, at + 104)) {
+    if !same_count(reports::frames(scan), vectors::number32(record, 104)) {
         return false;
     }
-    if !same_level(
-        reports::correlation(scan),
-        vectors::number32(bytes, at + 108),
-    ) {
+    if !same_level(reports::correlation(scan), vectors::number32(record, 108)) {
         return false;
     }
     same_region(
         reports::region(scan),
-        records::flagged(bytes, at, 4),
-        vectors::number(bytes, at + 112, 8),
-        vectors::number(bytes, at + 120, 8),
+        records::flagged(record, 4),
+        vectors::number(record, 112, 8),
+        vectors::number(record, 120, 8),
     )
 }
 
 // ---- the buffers, by their hashes
 
-// The levels that the frame under way has.
-fn hash_levels(levels: &[f32], len: u64) -> u64 {
-    let n = records::at_most(len, levels.len());
-    patterns::hash32(&levels[..n])
-}
-
-// Whether hash k of a record is this.
-fn same_hash(hash: u64, bytes: &[u8], at: usize, k: usize) -> bool
-    requires { ⌜ (at + 160 ≤ length (now bytes)) × (k ≤ 6) ⌝ }
-{
-    hash == vectors::number(bytes, at + 128 + 4 * k, 4)
-}
-
+// Of the levels those that the frame under way has.
 fn same_lent(
-    scan: Scan,
-    envelope: &[f32],
-    levels: &[f32],
-    sums: &[f64],
-    bytes: &[u8],
-    at: usize,
-) -> bool
-    requires { ⌜ at + 160 ≤ length (now bytes) ⌝ }
-{
-    if !same_hash(patterns::hash32(envelope), bytes, at, 0) {
+    lengths: Lengths,
+    levels_in: u64,
+    envelope: &Envelope,
+    levels: &Levels,
+    sums: &Lags,
+    record: &Record,
+) -> bool {
+    if hash32_first(envelope, lengths.envelope) != vectors::number(record, 128, 4) {
         return false;
     }
-    if !same_hash(hash_levels(levels, scan.near.len), bytes, at, 1) {
+    if hash32_first(levels, levels_in) != vectors::number(record, 132, 4) {
         return false;
     }
-    same_hash(patterns::hash64(sums), bytes, at, 6)
+    hash64_first(sums, lengths.lags) == vectors::number(record, 152, 4)
 }
 
 fn same_scored(
-    window: &[f32],
-    prefix: &[f64],
-    squares: &[f64],
-    scores: &[f64],
-    bytes: &[u8],
-    at: usize,
-) -> bool
-    requires { ⌜ at + 160 ≤ length (now bytes) ⌝ }
-{
-    if !same_hash(patterns::hash32(window), bytes, at, 2) {
+    lengths: Lengths,
+    window: &Window,
+    prefix: &Sums,
+    squares: &Sums,
+    scores: &Lags,
+    record: &Record,
+) -> bool {
+    if hash32_first(window, lengths.window) != vectors::number(record, 136, 4) {
         return false;
     }
-    if !same_hash(patterns::hash64(prefix), bytes, at, 3) {
+    if hash64_first(prefix, lengths.sums) != vectors::number(record, 140, 4) {
         return false;
     }
-    if !same_hash(patterns::hash64(squares), bytes, at, 4) {
+    if hash64_first(squares, lengths.sums) != vectors::number(record, 144, 4) {
         return false;
     }
-    same_hash(patterns::hash64(scores), bytes, at, 5)
+    hash64_first(scores, lengths.lags) == vectors::number(record, 148, 4)
+}
+
+// Where a record says so, the buffers stand whole in the file `full` besides.
+fn same_whole(
+    full: i32,
+    lengths: Lengths,
+    window: &Window,
+    prefix: &Sums,
+    squares: &Sums,
+    scores: &Lags,
+    sums: &Lags,
+    record: &Record,
+) -> bool {
+    if records::flagged(record, 16) {
+        return whole::same(full, lengths, window, prefix, squares, scores, sums);
+    }
+    true
 }
 
 pub fn same_buffers(
+    full: i32,
     scan: Scan,
-    envelope: &[f32],
-    levels: &[f32],
-    window: &[f32],
-    prefix: &[f64],
-    squares: &[f64],
-    scores: &[f64],
-    sums: &[f64],
-    bytes: &[u8],
-    at: usize,
-) -> bool
-    requires { ⌜ at + 160 ≤ length (now bytes) ⌝ }
-{
-    if !same_lent(scan, envelope, levels, sums, bytes, at) {
+    envelope: &Envelope,
+    levels: &Levels,
+    window: &Window,
+    prefix: &Sums,
+    squares: &Sums,
+    scores: &Lags,
+    sums: &Lags,
+    record: &Record,
+) -> bool {
+    let lengths = buffers::lengths_of(scan.geometry.rate, scan.geometry.ceiling);
+    let whole = same_whole(full, lengths, window, prefix, squares, scores, sums, record);
+    if !whole {
         return false;
     }
-    same_scored(window, prefix, squares, scores, bytes, at)
+    if !same_lent(lengths, scan.near.len, envelope, levels, sums, record) {
+        return false;
+    }
+    same_scored(lengths, window, prefix, squares, scores, record)
 }

@@ -1,7 +1,7 @@
 // A record of the file: the call, and what its answer is to be.
 use vectors::signals::Signal;
-ghost use Prim.Native.Nat.{_+_, _≤_};
-ghost use lib.ListN.{length};
+
+pub type Record = [u8; 160];
 
 // The call of a record, with what it is given.
 pub struct Call {
@@ -13,29 +13,18 @@ pub struct Call {
     pub signal: Signal,
 }
 
-pub fn call_at(bytes: &[u8], at: usize) -> Call
-    requires { ⌜ at + 160 ≤ length (now bytes) ⌝ }
-{
+pub fn call_of(record: &Record) -> Call {
     Call {
-        kind: vectors::number(bytes, at, 1),
-        count: vectors::number32(bytes, at + 4),
-        number: vectors::number(bytes, at + 8, 8),
-        place: vectors::number(bytes, at + 16, 8),
-        accepted: vectors::number(bytes, at + 64, 8),
-        signal: vectors::signals::read(bytes, at + 24),
+        kind: vectors::number(record, 0, 1),
+        count: vectors::number32(record, 4),
+        number: vectors::number(record, 8, 8),
+        place: vectors::number(record, 16, 8),
+        accepted: vectors::number(record, 64, 8),
+        signal: vectors::signals::read(record, 24),
     }
 }
 
 // Whether flag k of a record is set.
-pub fn flagged(bytes: &[u8], at: usize, k: u64) -> bool
-    requires { ⌜ at + 160 ≤ length (now bytes) ⌝ }
-{
-    vectors::number(bytes, at + 2, 1) & k == k
-}
-
-pub fn at_most(n: u64, most: usize) -> usize
-    ensures { λ r. ⌜ r ≤ most ⌝ }
-{
-    let m = n as usize;
-    if m <= most { m } else { most }
+pub fn flagged(record: &Record, k: u64) -> bool {
+    vectors::number(record, 2, 1) & k == k
 }
