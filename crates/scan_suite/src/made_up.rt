@@ -9,7 +9,7 @@ use coarse::Scan;
 use coarse::Verdict;
 use scan::parts;
 
-pub fn low32(n: u64) -> u32 {
+fn low32(n: u64) -> u32 {
     (n % 0x1_0000_0000) as u32
 }
 

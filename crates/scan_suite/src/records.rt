@@ -1,9 +1,11 @@
 // A record of the file: the call, and what its answer is to be.
+use crate::buffers::Buffers;
+use coarse::Scan;
 use vectors::signals::Signal;
 
 pub type Record = [u8; 160];
 
-// The call of a record, with what it is given.
+// What a call is given.
 pub struct Call {
     pub kind: u64,
     pub count: u32,
@@ -15,7 +17,7 @@ pub struct Call {
 
 pub fn call_of(record: &Record) -> Call {
     Call {
-        kind: vectors::number(record, 0, 1),
+        kind: kind_of(record),
         count: vectors::number32(record, 4),
         number: vectors::number(record, 8, 8),
         place: vectors::number(record, 16, 8),
@@ -24,7 +26,16 @@ pub fn call_of(record: &Record) -> Call {
     }
 }
 
-// Whether flag k of a record is set.
-pub fn flagged(record: &Record, k: u64) -> bool {
-    vectors::number(record, 2, 1) & k == k
+pub fn kind_of(record: &Record) -> u64 {
+    vectors::number(record, 0, 1)
 }
+
+// The scan and its buffers after a call, and the answer as a record has it.
+pub struct Done {
+    pub scan: Scan,
+    pub buffers: Buffers,
+    pub answer: u64,
+}
+
+// No record has it: a refusal, or an answer whose values are not those of the state.
+pub const OTHER: u64 = 0x1_0000_0000;

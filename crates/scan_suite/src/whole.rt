@@ -1,10 +1,10 @@
 // Whether buffers stand as the file `full` has them, element by element. All that belongs to a record is read, also after a difference.
-use crate::buffers::Lags;
-use crate::buffers::Lengths;
-use crate::buffers::Sums;
-use crate::buffers::Window;
+use crate::buffers;
+use crate::buffers::Buffers;
+use crate::records::Record;
+use coarse::Scan;
 
-fn both(a: bool, b: bool) -> bool {
+pub fn both(a: bool, b: bool) -> bool {
     if a { b } else { false }
 }
 
@@ -44,19 +44,20 @@ fn same64(fd: i32, xs: &[f64], n: u64) -> bool {
     same
 }
 
-pub fn same(
-    fd: i32,
-    lengths: Lengths,
-    window: &Window,
-    prefix: &Sums,
-    squares: &Sums,
-    scores: &Lags,
-    sums: &Lags,
-) -> bool {
-    let w = same32(fd, window, lengths.window);
-    let p = same64(fd, prefix, lengths.sums);
-    let q = same64(fd, squares, lengths.sums);
-    let c = same64(fd, scores, lengths.lags);
-    let s = same64(fd, sums, lengths.lags);
+fn same_buffers(fd: i32, scan: Scan, b: Buffers) -> bool {
+    let lengths = buffers::lengths_of(scan.geometry.rate, scan.geometry.ceiling);
+    let w = same32(fd, &b.window, lengths.window);
+    let p = same64(fd, &b.prefix, lengths.sums);
+    let q = same64(fd, &b.squares, lengths.sums);
+    let c = same64(fd, &b.scores, lengths.lags);
+    let s = same64(fd, &b.sums, lengths.lags);
     both(w, both(p, both(q, both(c, s))))
+}
+
+// Whether they do where a record says that they stand there.
+pub fn same(fd: i32, scan: Scan, buffers: Buffers, record: &Record) -> bool {
+    if vectors::number(record, 2, 1) & 16 == 0 {
+        return true;
+    }
+    same_buffers(fd, scan, buffers)
 }

@@ -4,18 +4,19 @@ use Rattle.scan_suite.proofs.try_calls.Statement.{statement}
 use Rattle.scan_suite.proofs.try_calls.Tie as tie
 
 abbrev Inv-loop : tie.InvT-loop
-Inv-loop calls full envelope₀ levels₀ window₀ prefix₀ squares₀ scores₀ sums₀ record₀ run₀ turns₀ envelope levels window prefix squares scores sums «record» run turns =
-    Unit {0}
+Inv-loop calls full record₀ run₀ turns₀ «record» run turns = Unit {0}
 
 abbrev μ-loop : tie.MeasureT-loop
-μ-loop calls full envelope₀ levels₀ window₀ prefix₀ squares₀ scores₀ sums₀ record₀ run₀ turns₀ envelope levels window prefix squares scores sums «record» run turns =
-    turns
+μ-loop calls full record₀ run₀ turns₀ «record» run turns = turns
+
+new-requires : tie.Need-new-requires Inv-loop μ-loop
+new-requires c κs = search needs
 
 new-scan-requires : tie.Need-new-scan-requires Inv-loop μ-loop
 new-scan-requires c κs = search needs
 
-new-requires : tie.Need-new-requires Inv-loop μ-loop
-new-requires c κs = search needs
+all-blank-requires : tie.Need-all-blank-requires Inv-loop μ-loop
+all-blank-requires c κs = search needs
 
 next-requires : tie.Need-next-requires Inv-loop μ-loop
 next-requires c κs = search needs
@@ -45,6 +46,7 @@ try-calls-spec =
     Inv-loop
     μ-loop
     new-scan-requires
+    all-blank-requires
     new-requires
     next-requires
     loop-holds

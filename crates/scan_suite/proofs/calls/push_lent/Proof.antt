@@ -5,8 +5,8 @@ use borrow.Author.Needs.{needs}
 use Rattle.scan_suite.proofs.calls.push_lent.Statement.{statement}
 use Rattle.scan_suite.proofs.calls.push_lent.Tie as tie
 
-lengths-for-requires : tie.Need-lengths-for-requires
-lengths-for-requires c κs = search needs
+lengths-of-requires : tie.Need-lengths-of-requires
+lengths-of-requires c κs = search needs
 
 at-most-requires : tie.Need-at-most-requires
 at-most-requires c κs = search needs
@@ -16,6 +16,9 @@ slice-relend-prefix-push-run c = search needs
 
 slice-aggregate-push-run : tie.Need-slice-aggregate-push-run
 slice-aggregate-push-run c = sym (length-take-le _ _ (c .before .at-most .ensures))
+
+call-of-requires : tie.Need-call-of-requires
+call-of-requires c κs = search needs
 
 push-run-requires : tie.Need-push-run-requires
 push-run-requires c κs = search needs
@@ -30,10 +33,11 @@ pub push-lent-spec : {M : Type 1} → statement M
 push-lent-spec =
     tie.close
     (tie.spec
-    lengths-for-requires
+    lengths-of-requires
     at-most-requires
     slice-relend-prefix-push-run
     slice-aggregate-push-run
+    call-of-requires
     push-run-requires
     same-length
     returns)

@@ -29,44 +29,44 @@ at-most-requires-6 c κs = search needs
 at-most-requires-7 : tie.Need-at-most-requires-7
 at-most-requires-7 c κs = search needs
 
-slice-aggregate-score : tie.Need-slice-aggregate-score
-slice-aggregate-score c = sym (length-take-le _ _ (c .before .before .before .before .before .before .before .at-most .ensures))
+slice-aggregate-observe : tie.Need-slice-aggregate-observe
+slice-aggregate-observe c = sym (length-take-le _ _ (c .before .before .before .before .before .before .before .at-most .ensures))
 
-slice-aggregate-score-2 : tie.Need-slice-aggregate-score-2
-slice-aggregate-score-2 c = sym (length-take-le _ _ (c .before .before .before .before .before .before .before .at-most2 .ensures))
+slice-aggregate-observe-2 : tie.Need-slice-aggregate-observe-2
+slice-aggregate-observe-2 c = sym (length-take-le _ _ (c .before .before .before .before .before .before .before .at-most2 .ensures))
 
-slice-relend-prefix-score : tie.Need-slice-relend-prefix-score
-slice-relend-prefix-score c = search needs
+slice-relend-prefix-observe : tie.Need-slice-relend-prefix-observe
+slice-relend-prefix-observe c = search needs
 
-slice-aggregate-score-3 : tie.Need-slice-aggregate-score-3
-slice-aggregate-score-3 c = sym (length-take-le _ _ (c .before .before .before .before .before .before .before .at-most3 .ensures))
+slice-aggregate-observe-3 : tie.Need-slice-aggregate-observe-3
+slice-aggregate-observe-3 c = sym (length-take-le _ _ (c .before .before .before .before .before .before .before .at-most3 .ensures))
 
-slice-relend-prefix-score-2 : tie.Need-slice-relend-prefix-score-2
-slice-relend-prefix-score-2 c = search needs
+slice-relend-prefix-observe-2 : tie.Need-slice-relend-prefix-observe-2
+slice-relend-prefix-observe-2 c = search needs
 
-slice-aggregate-score-4 : tie.Need-slice-aggregate-score-4
-slice-aggregate-score-4 c = sym (length-take-le _ _ (c .before .before .before .before .before .before .before .at-most4 .ensures))
+slice-aggregate-observe-4 : tie.Need-slice-aggregate-observe-4
+slice-aggregate-observe-4 c = sym (length-take-le _ _ (c .before .before .before .before .before .before .before .at-most4 .ensures))
 
-slice-relend-prefix-score-3 : tie.Need-slice-relend-prefix-score-3
-slice-relend-prefix-score-3 c = search needs
+slice-relend-prefix-observe-3 : tie.Need-slice-relend-prefix-observe-3
+slice-relend-prefix-observe-3 c = search needs
 
-slice-aggregate-score-5 : tie.Need-slice-aggregate-score-5
-slice-aggregate-score-5 c = sym (length-take-le _ _ (c .before .before .before .before .before .before .before .at-most5 .ensures))
+slice-aggregate-observe-5 : tie.Need-slice-aggregate-observe-5
+slice-aggregate-observe-5 c = sym (length-take-le _ _ (c .before .before .before .before .before .before .before .at-most5 .ensures))
 
-slice-relend-prefix-score-4 : tie.Need-slice-relend-prefix-score-4
-slice-relend-prefix-score-4 c = search needs
+slice-relend-prefix-observe-4 : tie.Need-slice-relend-prefix-observe-4
+slice-relend-prefix-observe-4 c = search needs
 
-slice-aggregate-score-6 : tie.Need-slice-aggregate-score-6
-slice-aggregate-score-6 c = sym (length-take-le _ _ (c .before .before .before .before .before .before .before .at-most6 .ensures))
+slice-aggregate-observe-6 : tie.Need-slice-aggregate-observe-6
+slice-aggregate-observe-6 c = sym (length-take-le _ _ (c .before .before .before .before .before .before .before .at-most6 .ensures))
 
-slice-relend-prefix-score-5 : tie.Need-slice-relend-prefix-score-5
-slice-relend-prefix-score-5 c = search needs
+slice-relend-prefix-observe-5 : tie.Need-slice-relend-prefix-observe-5
+slice-relend-prefix-observe-5 c = search needs
 
-slice-aggregate-score-7 : tie.Need-slice-aggregate-score-7
-slice-aggregate-score-7 c = sym (length-take-le _ _ (c .before .before .before .before .before .before .before .at-most7 .ensures))
+slice-aggregate-observe-7 : tie.Need-slice-aggregate-observe-7
+slice-aggregate-observe-7 c = sym (length-take-le _ _ (c .before .before .before .before .before .before .before .at-most7 .ensures))
 
-score-requires : tie.Need-score-requires
-score-requires c κs = search needs
+observe-requires : tie.Need-observe-requires
+observe-requires c κs = search needs
 
 same-length : tie.Need-same-length
 same-length c = search needs
@@ -98,19 +98,19 @@ score-lent-spec =
     at-most-requires-5
     at-most-requires-6
     at-most-requires-7
-    slice-aggregate-score
-    slice-aggregate-score-2
-    slice-relend-prefix-score
-    slice-aggregate-score-3
-    slice-relend-prefix-score-2
-    slice-aggregate-score-4
-    slice-relend-prefix-score-3
-    slice-aggregate-score-5
-    slice-relend-prefix-score-4
-    slice-aggregate-score-6
-    slice-relend-prefix-score-5
-    slice-aggregate-score-7
-    score-requires
+    slice-aggregate-observe
+    slice-aggregate-observe-2
+    slice-relend-prefix-observe
+    slice-aggregate-observe-3
+    slice-relend-prefix-observe-2
+    slice-aggregate-observe-4
+    slice-relend-prefix-observe-3
+    slice-aggregate-observe-5
+    slice-relend-prefix-observe-4
+    slice-aggregate-observe-6
+    slice-relend-prefix-observe-5
+    slice-aggregate-observe-7
+    observe-requires
     same-length
     same-length-2
     same-length-3
