@@ -12,7 +12,8 @@ pub type Sums = [f64; 4520];
 pub type Lags = [f64; 4249];
 
 // Long enough for the largest scan, of 1,062 bins a second and ceiling 4,000; a smaller one is lent a part of each.
-// They go from call to call by value: lent one by one through every function they made the check of this program twice as long.
+// They go from call to call by value: a function that lends seven slices on takes seconds to check. The fields that the scoring lends last stand
+// first, where the search for their lengths finds them.
 pub struct Buffers {
     pub sums: Lags,
     pub scores: Lags,
