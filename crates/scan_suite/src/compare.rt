@@ -1,227 +1,155 @@
 // Whether a scan and its buffers stand as a record says.
-use crate::records;
+use crate::buffers;
+use crate::buffers::Buffers;
+use crate::records::OTHER;
+use crate::records::Record;
 use coarse::CountReport;
-use coarse::Far;
 use coarse::FlagReport;
 use coarse::Found;
 use coarse::LevelReport;
-use coarse::Near;
 use coarse::Region;
 use coarse::RegionReport;
 use coarse::Scan;
 use scan::reports;
+use vectors::buffers::hash32_first;
+use vectors::buffers::hash64_first;
+use vectors::files::has_row;
 use vectors::patterns;
-ghost use Prim.Native.Nat.{_+_, _≤_};
-ghost use lib.ListN.{length};
 
 // ---- the state
 
-fn same_far(far: Far, bytes: &[u8], at: usize) -> bool
-    requires { ⌜ at + 160 ≤ length (now bytes) ⌝ }
-{
-    if far.next != vectors::number(bytes, at + 48, 8) {
-        return false;
-    }
-    if patterns::bits64(far.sum) != vectors::number(bytes, at + 56, 8) {
-        return false;
-    }
-    if far.accepted != vectors::number(bytes, at + 64, 8) {
-        return false;
-    }
-    far.count == vectors::number(bytes, at + 72, 4)
-}
-
-fn same_near(near: Near, bytes: &[u8], at: usize) -> bool
-    requires { ⌜ at + 160 ≤ length (now bytes) ⌝ }
-{
-    if near.len != vectors::number(bytes, at + 76, 4) {
-        return false;
-    }
-    if patterns::bits64(near.sum) != vectors::number(bytes, at + 80, 8) {
-        return false;
-    }
-    if near.first != vectors::number(bytes, at + 88, 8) {
-        return false;
-    }
-    near.count == vectors::number(bytes, at + 96, 4)
-}
-
-pub fn same_state(scan: Scan, bytes: &[u8], at: usize) -> bool
-    requires { ⌜ at + 160 ≤ length (now bytes) ⌝ }
-{
+fn far_row(scan: Scan) -> [u64; 5] {
     let far = scan.far;
+    [
+        patterns::bits32(scan.verdict.last) as u64,
+        far.next,
+        patterns::bits64(far.sum),
+        far.accepted,
+        far.count,
+    ]
+}
+
+fn near_row(scan: Scan) -> [u64; 5] {
     let near = scan.near;
-    if !same_far(far, bytes, at) {
+    [
+        near.len,
+        patterns::bits64(near.sum),
+        near.first,
+        near.count,
+        scan.verdict.banked as u64,
+    ]
+}
+
+fn same_state(scan: Scan, record: &Record) -> bool {
+    if !has_row(record, 44, 0b01110, &far_row(scan)) {
         return false;
     }
-    if !same_near(near, bytes, at) {
-        return false;
-    }
-    if scan.verdict.banked != vectors::number32(bytes, at + 100) {
-        return false;
-    }
-    patterns::bits32(scan.verdict.last) == vectors::number32(bytes, at + 44)
+    has_row(record, 76, 0b00110, &near_row(scan))
 }
 
 // ---- the reports
 
-fn same_flag(report: FlagReport, is: bool) -> bool {
+// A flag that is set, as a record has it.
+fn flag(report: FlagReport, k: u64) -> u64 {
     match report {
-        FlagReport::Refused(_) => false,
-        FlagReport::Is(flag) => flag == is,
+        FlagReport::Refused(_) => OTHER,
+        FlagReport::Is(is) => if is { k } else { 0 },
     }
 }
 
-fn same_flags(scan: Scan, bytes: &[u8], at: usize) -> bool
-    requires { ⌜ at + 160 ≤ length (now bytes) ⌝ }
-{
-    if !same_flag(
-        reports::beyond_ceiling(scan),
-        records::flagged(bytes, at, 1),
-    ) {
-        return false;
-    }
-    if !same_flag(reports::exhausted(scan), records::flagged(bytes, at, 2)) {
-        return false;
-    }
-    same_flag(reports::finished(scan), records::flagged(bytes, at, 8))
-}
-
-fn same_count(report: CountReport, n: u32) -> bool {
+fn count(report: CountReport) -> u64 {
     match report {
-        CountReport::Refused(_) => false,
-        CountReport::Is(m) => m == n,
+        CountReport::Refused(_) => OTHER,
+        CountReport::Is(n) => n as u64,
     }
 }
 
-fn same_level(report: LevelReport, bits: u32) -> bool {
+fn level(report: LevelReport) -> u64 {
     match report {
-        LevelReport::Refused(_) => false,
-        LevelReport::Is(x) => patterns::bits32(x) == bits,
+        LevelReport::Refused(_) => OTHER,
+        LevelReport::Is(x) => patterns::bits32(x) as u64,
     }
 }
 
-fn same_values(region: Region, delay: u64, correlation: u64) -> bool {
-    let samples = region.delay;
-    if samples.0 != delay {
-        return false;
-    }
-    patterns::bits64(region.correlation) == correlation
+// The region as a record has it: its flag, its delay and its correlation.
+struct Told {
+    flag: u64,
+    delay: u64,
+    correlation: u64,
 }
 
-fn same_found(found: Found, there: bool, delay: u64, correlation: u64) -> bool {
-    match found {
-        Found::Nothing => !there,
-        Found::At(region) => if there {
-            same_values(region, delay, correlation)
-        } else {
-            false
+fn place(region: Region) -> Told {
+    let delay = region.delay;
+    Told {
+        flag: 4,
+        delay: delay.0,
+        correlation: patterns::bits64(region.correlation),
+    }
+}
+
+fn region(report: RegionReport) -> Told {
+    match report {
+        RegionReport::Refused(_) => Told {
+            flag: OTHER,
+            delay: 0,
+            correlation: 0,
+        },
+        RegionReport::Is(found) => match found {
+            Found::Nothing => Told {
+                flag: 0,
+                delay: 0,
+                correlation: 0,
+            },
+            Found::At(region) => place(region),
         },
     }
 }
 
-fn same_region(report: RegionReport, there: bool, delay: u64, correlation: u64) -> bool {
-    match report {
-        RegionReport::Refused(_) => false,
-        RegionReport::Is(found) => same_found(found, there, delay, correlation),
-    }
+fn flags(scan: Scan) -> u64 {
+    flag(reports::beyond_ceiling(scan), 1)
+        | flag(reports::exhausted(scan), 2)
+        | flag(reports::finished(scan), 8)
 }
 
-pub fn same_reports(scan: Scan, bytes: &[u8], at: usize) -> bool
-    requires { ⌜ at + 160 ≤ length (now bytes) ⌝ }
-{
-    if !same_flags(scan, bytes, at) {
+fn same_reports(scan: Scan, record: &Record) -> bool {
+    let told = region(reports::region(scan));
+    if told.flag | flags(scan) != vectors::number(record, 2, 1) & 0xef {
         return false;
     }
-    if !same_count(reports::frames(scan), vectors::number32(bytes, at + 104)) {
-        return false;
-    }
-    if !same_level(
-        reports::correlation(scan),
-        vectors::number32(bytes, at + 108),
-    ) {
-        return false;
-    }
-    same_region(
-        reports::region(scan),
-        records::flagged(bytes, at, 4),
-        vectors::number(bytes, at + 112, 8),
-        vectors::number(bytes, at + 120, 8),
-    )
+    let row = [
+        count(reports::frames(scan)),
+        level(reports::correlation(scan)),
+        told.delay,
+        told.correlation,
+    ];
+    has_row(record, 104, 0b1100, &row)
 }
 
 // ---- the buffers, by their hashes
 
-// The levels that the frame under way has.
-fn hash_levels(levels: &[f32], len: u64) -> u64 {
-    let n = records::at_most(len, levels.len());
-    patterns::hash32(&levels[..n])
+// Of the levels those that the frame under way has.
+fn hashes(scan: Scan, b: Buffers) -> [u64; 7] {
+    let lengths = buffers::lengths_of(scan.geometry.rate, scan.geometry.ceiling);
+    [
+        hash32_first(&b.envelope, lengths.envelope),
+        hash32_first(&b.levels, scan.near.len),
+        hash32_first(&b.window, lengths.window),
+        hash64_first(&b.prefix, lengths.sums),
+        hash64_first(&b.squares, lengths.sums),
+        hash64_first(&b.scores, lengths.lags),
+        hash64_first(&b.sums, lengths.lags),
+    ]
 }
 
-// Whether hash k of a record is this.
-fn same_hash(hash: u64, bytes: &[u8], at: usize, k: usize) -> bool
-    requires { ⌜ (at + 160 ≤ length (now bytes)) × (k ≤ 6) ⌝ }
-{
-    hash == vectors::number(bytes, at + 128 + 4 * k, 4)
-}
-
-fn same_lent(
-    scan: Scan,
-    envelope: &[f32],
-    levels: &[f32],
-    sums: &[f64],
-    bytes: &[u8],
-    at: usize,
-) -> bool
-    requires { ⌜ at + 160 ≤ length (now bytes) ⌝ }
-{
-    if !same_hash(patterns::hash32(envelope), bytes, at, 0) {
+pub fn same(scan: Scan, buffers: Buffers, answer: u64, record: &Record) -> bool {
+    if answer != vectors::number(record, 1, 1) {
         return false;
     }
-    if !same_hash(hash_levels(levels, scan.near.len), bytes, at, 1) {
+    if !has_row(record, 128, 0, &hashes(scan, buffers)) {
         return false;
     }
-    same_hash(patterns::hash64(sums), bytes, at, 6)
-}
-
-fn same_scored(
-    window: &[f32],
-    prefix: &[f64],
-    squares: &[f64],
-    scores: &[f64],
-    bytes: &[u8],
-    at: usize,
-) -> bool
-    requires { ⌜ at + 160 ≤ length (now bytes) ⌝ }
-{
-    if !same_hash(patterns::hash32(window), bytes, at, 2) {
+    if !same_state(scan, record) {
         return false;
     }
-    if !same_hash(patterns::hash64(prefix), bytes, at, 3) {
-        return false;
-    }
-    if !same_hash(patterns::hash64(squares), bytes, at, 4) {
-        return false;
-    }
-    same_hash(patterns::hash64(scores), bytes, at, 5)
-}
-
-pub fn same_buffers(
-    scan: Scan,
-    envelope: &[f32],
-    levels: &[f32],
-    window: &[f32],
-    prefix: &[f64],
-    squares: &[f64],
-    scores: &[f64],
-    sums: &[f64],
-    bytes: &[u8],
-    at: usize,
-) -> bool
-    requires { ⌜ at + 160 ≤ length (now bytes) ⌝ }
-{
-    if !same_lent(scan, envelope, levels, sums, bytes, at) {
-        return false;
-    }
-    same_scored(window, prefix, squares, scores, bytes, at)
+    same_reports(scan, record)
 }

@@ -1,4 +1,7 @@
 // States that no call made: histories, frames, lag sums and counts that a record writes into the scan.
+use crate::buffers::Envelope;
+use crate::buffers::Lags;
+use crate::buffers::Levels;
 use crate::records::Call;
 use coarse::Far;
 use coarse::Near;
@@ -68,8 +71,8 @@ fn counts(scan: Scan, call: Call) -> Scan {
     parts::with_near_verdict(scan, near, verdict)
 }
 
-// What a record writes into a buffer.
-pub fn write(envelope: &mut [f32], levels: &mut [f32], sums: &mut [f64], call: Call) {
+// What a record writes into a buffer. Past the part that the scan is lent nothing is looked at.
+pub fn write(envelope: &mut Envelope, levels: &mut Levels, sums: &mut Lags, call: Call) {
     let signal = call.signal;
     if call.kind == 11 {
         signal.fill(envelope, call.place);

@@ -1,9 +1,11 @@
 // A record of the file: the call, and what its answer is to be.
+use crate::buffers::Buffers;
+use coarse::Scan;
 use vectors::signals::Signal;
-ghost use Prim.Native.Nat.{_+_, _≤_};
-ghost use lib.ListN.{length};
 
-// The call of a record, with what it is given.
+pub type Record = [u8; 160];
+
+// What a call is given.
 pub struct Call {
     pub kind: u64,
     pub count: u32,
@@ -13,29 +15,27 @@ pub struct Call {
     pub signal: Signal,
 }
 
-pub fn call_at(bytes: &[u8], at: usize) -> Call
-    requires { ⌜ at + 160 ≤ length (now bytes) ⌝ }
-{
+pub fn call_of(record: &Record) -> Call {
     Call {
-        kind: vectors::number(bytes, at, 1),
-        count: vectors::number32(bytes, at + 4),
-        number: vectors::number(bytes, at + 8, 8),
-        place: vectors::number(bytes, at + 16, 8),
-        accepted: vectors::number(bytes, at + 64, 8),
-        signal: vectors::signals::read(bytes, at + 24),
+        kind: kind_of(record),
+        count: vectors::number32(record, 4),
+        number: vectors::number(record, 8, 8),
+        place: vectors::number(record, 16, 8),
+        accepted: vectors::number(record, 64, 8),
+        signal: vectors::signals::read(record, 24),
     }
 }
 
-// Whether flag k of a record is set.
-pub fn flagged(bytes: &[u8], at: usize, k: u64) -> bool
-    requires { ⌜ at + 160 ≤ length (now bytes) ⌝ }
-{
-    vectors::number(bytes, at + 2, 1) & k == k
+pub fn kind_of(record: &Record) -> u64 {
+    vectors::number(record, 0, 1)
 }
 
-pub fn at_most(n: u64, most: usize) -> usize
-    ensures { λ r. ⌜ r ≤ most ⌝ }
-{
-    let m = n as usize;
-    if m <= most { m } else { most }
+// The scan and its buffers after a call, and the answer as a record has it.
+pub struct Done {
+    pub scan: Scan,
+    pub buffers: Buffers,
+    pub answer: u64,
 }
+
+// No record has it: a refusal, or an answer whose values are not those of the state.
+pub const OTHER: u64 = 0x1_0000_0000;

@@ -1,6 +1,10 @@
 // Whether buffers stand as the file `full` has them, element by element. All that belongs to a record is read, also after a difference.
+use crate::buffers;
+use crate::buffers::Buffers;
+use crate::records::Record;
+use coarse::Scan;
 
-fn both(a: bool, b: bool) -> bool {
+pub fn both(a: bool, b: bool) -> bool {
     if a { b } else { false }
 }
 
@@ -16,10 +20,11 @@ fn next_u64(fd: i32) -> u64 {
     vectors::number(&bytes, 0, 8)
 }
 
-fn same32(fd: i32, xs: &[f32]) -> bool {
+fn same32(fd: i32, xs: &[f32], n: u64) -> bool {
+    let most = vectors::buffers::at_most(n, xs.len());
     let mut same = true;
     let mut i = 0;
-    while i < xs.len() {
+    while i < most {
         let bits = vectors::patterns::bits32(xs[i]) as u64;
         same = both(same, next_u32(fd) == bits);
         i += 1;
@@ -27,10 +32,11 @@ fn same32(fd: i32, xs: &[f32]) -> bool {
     same
 }
 
-fn same64(fd: i32, xs: &[f64]) -> bool {
+fn same64(fd: i32, xs: &[f64], n: u64) -> bool {
+    let most = vectors::buffers::at_most(n, xs.len());
     let mut same = true;
     let mut i = 0;
-    while i < xs.len() {
+    while i < most {
         let bits = vectors::patterns::bits64(xs[i]);
         same = both(same, next_u64(fd) == bits);
         i += 1;
@@ -38,18 +44,20 @@ fn same64(fd: i32, xs: &[f64]) -> bool {
     same
 }
 
-pub fn same(
-    fd: i32,
-    window: &[f32],
-    prefix: &[f64],
-    squares: &[f64],
-    scores: &[f64],
-    sums: &[f64],
-) -> bool {
-    let w = same32(fd, window);
-    let p = same64(fd, prefix);
-    let q = same64(fd, squares);
-    let c = same64(fd, scores);
-    let s = same64(fd, sums);
+fn same_buffers(fd: i32, scan: Scan, b: Buffers) -> bool {
+    let lengths = buffers::lengths_of(scan.geometry.rate, scan.geometry.ceiling);
+    let w = same32(fd, &b.window, lengths.window);
+    let p = same64(fd, &b.prefix, lengths.sums);
+    let q = same64(fd, &b.squares, lengths.sums);
+    let c = same64(fd, &b.scores, lengths.lags);
+    let s = same64(fd, &b.sums, lengths.lags);
     both(w, both(p, both(q, both(c, s))))
+}
+
+// Whether they do where a record says that they stand there.
+pub fn same(fd: i32, scan: Scan, buffers: Buffers, record: &Record) -> bool {
+    if vectors::number(record, 2, 1) & 16 == 0 {
+        return true;
+    }
+    same_buffers(fd, scan, buffers)
 }

@@ -1,4 +1,5 @@
-// Parts of buffers, and entries that a record writes into one.
+// Parts of buffers with their hashes, and entries that a record writes into one.
+use crate::patterns;
 ghost use Prim.Native.Nat.{_≤_};
 
 // n, or `most` where n is larger.
@@ -13,6 +14,17 @@ pub fn at_most(n: u64, most: usize) -> usize
 pub fn first<'a>(xs: &'a [f32], n: u64) -> &'a [f32] {
     let m = at_most(n, xs.len());
     &xs[..m]
+}
+
+// The hash of the first n elements.
+pub fn hash32_first(xs: &[f32], n: u64) -> u64 {
+    let m = at_most(n, xs.len());
+    patterns::hash32(&xs[..m])
+}
+
+pub fn hash64_first(xs: &[f64], n: u64) -> u64 {
+    let m = at_most(n, xs.len());
+    patterns::hash64(&xs[..m])
 }
 
 // Writes the f32 of the low 32 bits. A place past the end is none.

@@ -1,15 +1,17 @@
 -- `scan_suite::whole::same32` is safe and ends.
 use Prim.Native.Nat.{_-_}
-use lib.ListN.{length}
 use borrow.Author.Needs.{needs}
 use Rattle.scan_suite.proofs.whole.same32.Statement.{statement}
 use Rattle.scan_suite.proofs.whole.same32.Tie as tie
 
 abbrev Inv-loop : tie.InvT-loop
-Inv-loop fd xs same₀ i₀ same i = Unit {0}
+Inv-loop fd xs n most same₀ i₀ same i = Unit {0}
 
 abbrev μ-loop : tie.MeasureT-loop
-μ-loop fd xs same₀ i₀ same i = length xs - i
+μ-loop fd xs n most same₀ i₀ same i = most - i
+
+at-most-requires : tie.Need-at-most-requires Inv-loop μ-loop
+at-most-requires c κs = search needs
 
 loop-holds : tie.Need-loop-holds Inv-loop μ-loop
 loop-holds c = search needs
@@ -50,6 +52,7 @@ same32-spec =
     (tie.spec
     Inv-loop
     μ-loop
+    at-most-requires
     loop-holds
     mul-bits32
     shared-slice-read-bits32

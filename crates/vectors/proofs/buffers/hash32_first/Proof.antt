@@ -1,9 +1,9 @@
--- `scan_suite::compare::hash_levels` is safe: the part that it lends is no longer than the slice.
+-- `vectors::buffers::hash32_first` is safe: the part that it lends is no longer than the slice.
 use mathlib.Core.Path.{sym}
 use lib.Seq.{length-take-le}
 use borrow.Author.Needs.{needs}
-use Rattle.scan_suite.proofs.compare.hash_levels.Statement.{statement}
-use Rattle.scan_suite.proofs.compare.hash_levels.Tie as tie
+use Rattle.vectors.proofs.buffers.hash32_first.Statement.{statement}
+use Rattle.vectors.proofs.buffers.hash32_first.Tie as tie
 
 at-most-requires : tie.Need-at-most-requires
 at-most-requires c κs = search needs
@@ -17,6 +17,6 @@ hash32-requires c κs = search needs
 returns : tie.Need-returns
 returns c = search needs
 
-pub hash-levels-spec : {M : Type 1} → statement M
-hash-levels-spec =
+pub hash32-first-spec : {M : Type 1} → statement M
+hash32-first-spec =
     tie.close (tie.spec at-most-requires slice-aggregate-hash32 hash32-requires returns)
