@@ -1,1 +1,4 @@
 pub mod Made
+pub mod Runs
+pub mod Followed
+pub mod Forgets

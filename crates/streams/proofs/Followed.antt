@@ -1,0 +1,62 @@
+-- What happened is what the rules say: the calls of a program, each with its answer, are those calls as the rules answer them in turn.
+use mathlib.Core.Path.{_≡_, refl, sym, ap, _∙_, subst}
+use mathlib.Core.List.{List, [], _∷_, _++_}
+use Rattle.coarse.specs.Bins.{fullSlack}
+use Rattle.coarse.specs.State.{World}
+use Rattle.coarse.specs.Steps.{Call, Response, called, Step, step}
+use Rattle.streams.specs.Happened.{Answered, one, byRules, Happened, InTurn, by-push-far, by-push-near, by-push-near-run, by-observe, by-rearm, by-discard-near, by-reset, by-bin-samples, by-ceiling-samples, by-region, by-beyond-ceiling, by-frames, by-correlation, by-finished, by-exhausted, none-more, next, foreign}
+use Rattle.streams.proofs.Runs.{afterCalls, push-near-run-steps}
+use Rattle.streams.proofs.Made.{push-far-steps, push-near-steps, observe-steps, rearm-steps, discard-near-steps, reset-steps, bin-samples-steps, ceiling-samples-steps, region-steps, beyond-ceiling-steps, frames-steps, correlation-steps, finished-steps, exhausted-steps}
+
+pub record Followed (w : World) (t : List Answered) (w' : World) : Type 0 where
+  pub calls : List Call
+  pub answered : t ≡ byRules w calls
+  pub ends : afterCalls w calls ≡ w'
+
+-- one call, from the law of its function
+stepped : (w : World) (c : Call) (s : Step) → s ≡ called fullSlack w c → Followed w (one w c (s .response)) (s .world)
+unfolding byRules afterCalls
+stepped w c s e = record { calls = c ∷ []; answered = ap (λ (z : Step). one w c (z .response)) e; ends = ap (λ (z : Step). z .world) (sym e) }
+
+pub followed : {w w' : World} {t : List Answered} → Happened w t w' → Followed w t w'
+followed (by-push-far f w s e) = stepped w _ _ (push-far-steps f w s e)
+followed (by-push-near f w s e) = stepped w _ _ (push-near-steps f w s e)
+followed (by-push-near-run f w s e) = record { calls = _; answered = refl; ends = push-near-run-steps f w s e .ends }
+followed (by-observe f w s e) = stepped w _ _ (observe-steps f w s e)
+followed (by-rearm f w s e) = stepped w _ _ (rearm-steps f w s e)
+followed (by-discard-near f w s e) = stepped w _ _ (discard-near-steps f w s e)
+followed (by-reset f w s e l) = stepped w _ _ (reset-steps f w s e l)
+followed (by-bin-samples f w s) = stepped w _ _ (bin-samples-steps f w s)
+followed (by-ceiling-samples f w s) = stepped w _ _ (ceiling-samples-steps f w s)
+followed (by-region f w s) = stepped w _ _ (region-steps f w s)
+followed (by-beyond-ceiling f w s) = stepped w _ _ (beyond-ceiling-steps f w s)
+followed (by-frames f w s) = stepped w _ _ (frames-steps f w s)
+followed (by-correlation f w s) = stepped w _ _ (correlation-steps f w s)
+followed (by-finished f w s) = stepped w _ _ (finished-steps f w s)
+followed (by-exhausted f w s) = stepped w _ _ (exhausted-steps f w s)
+
+-- ---- calls in turn
+
+byRules-append : (calls more : List Call) (w : World) → byRules w (calls ++ more) ≡ byRules w calls ++ byRules (afterCalls w calls) more
+unfolding byRules afterCalls
+byRules-append [] more w = refl
+byRules-append (c ∷ calls) more w = ap (λ (l : List Answered). record { handed = w; call = c; response = called fullSlack w c .response } ∷ l) (byRules-append calls more (called fullSlack w c .world))
+
+afterCalls-append : (calls more : List Call) (w : World) → afterCalls w (calls ++ more) ≡ afterCalls (afterCalls w calls) more
+unfolding afterCalls
+afterCalls-append [] more w = refl
+afterCalls-append (c ∷ calls) more w = afterCalls-append calls more (called fullSlack w c .world)
+
+then : {w w' w'' : World} {t ts : List Answered} → Followed w t w' → Followed w' ts w'' → Followed w (t ++ ts) w''
+then {w} {w'} {w''} {t} {ts} f g =
+    record {
+      calls = f .calls ++ g .calls;
+      answered = (λ i. f .answered i ++ g .answered i) ∙ ap (λ (z : World). byRules w (f .calls) ++ byRules z (g .calls)) (sym (f .ends)) ∙ sym (byRules-append (f .calls) (g .calls) w);
+      ends = afterCalls-append (f .calls) (g .calls) w ∙ ap (λ (z : World). afterCalls z (g .calls)) (f .ends) ∙ g .ends;
+    }
+
+pub in-turn : {w w' : World} {t : List Answered} → InTurn w t w' → Followed w t w'
+unfolding byRules afterCalls
+in-turn (none-more w) = record { calls = []; answered = refl; ends = refl }
+in-turn (next h rest) = then (followed h) (in-turn rest)
+in-turn (foreign h r rest) = in-turn rest
