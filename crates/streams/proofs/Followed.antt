@@ -4,7 +4,8 @@ use mathlib.Core.List.{List, [], _∷_, _++_}
 use Rattle.coarse.specs.Bins.{fullSlack}
 use Rattle.coarse.specs.State.{World}
 use Rattle.coarse.specs.Steps.{Call, Response, called, Step, step}
-use Rattle.streams.specs.Happened.{Answered, one, byRules, Happened, InTurn, by-push-far, by-push-near, by-push-near-run, by-observe, by-rearm, by-discard-near, by-reset, by-bin-samples, by-ceiling-samples, by-region, by-beyond-ceiling, by-frames, by-correlation, by-finished, by-exhausted, none-more, next, foreign}
+use Rattle.coarse.proofs.FourFacts.{unchanged}
+use Rattle.streams.specs.Happened.{Answered, one, byRules, AllRefused, Happened, InTurn, by-push-far, by-push-near, by-push-near-run, by-observe, by-rearm, by-discard-near, by-reset, by-bin-samples, by-ceiling-samples, by-region, by-beyond-ceiling, by-frames, by-correlation, by-finished, by-exhausted, none-more, next, foreign}
 use Rattle.streams.proofs.Runs.{afterCalls, push-near-run-steps}
 use Rattle.streams.proofs.Made.{push-far-steps, push-near-steps, observe-steps, rearm-steps, discard-near-steps, reset-steps, bin-samples-steps, ceiling-samples-steps, region-steps, beyond-ceiling-steps, frames-steps, correlation-steps, finished-steps, exhausted-steps}
 
@@ -55,8 +56,19 @@ then {w} {w'} {w''} {t} {ts} f g =
       ends = afterCalls-append (f .calls) (g .calls) w ∙ ap (λ (z : World). afterCalls z (g .calls)) (f .ends) ∙ g .ends;
     }
 
+-- a call that was refused changed nothing
+refused-unchanged : (calls : List Call) (w : World) → AllRefused (byRules w calls) → afterCalls w calls ≡ w
+unfolding byRules afterCalls
+refused-unchanged [] w r = refl
+refused-unchanged (c ∷ calls) w r =
+    let e = unchanged fullSlack w c (r .0) in
+    ap (λ (z : World). afterCalls z calls) e ∙ refused-unchanged calls w (subst (λ (z : World). AllRefused (byRules z calls)) e (r .1))
+
 pub in-turn : {w w' : World} {t : List Answered} → InTurn w t w' → Followed w t w'
 unfolding byRules afterCalls
 in-turn (none-more w) = record { calls = []; answered = refl; ends = refl }
 in-turn (next h rest) = then (followed h) (in-turn rest)
-in-turn (foreign h r rest) = in-turn rest
+in-turn (foreign {v} {v'} {w'} {other} {later} around h r rest) =
+    let f = followed h in
+    let same : v ≡ v' = sym (refused-unchanged (f .calls) v (subst AllRefused (f .answered) r)) ∙ f .ends in
+    subst (λ (z : World). Followed z later w') (ap around (sym same)) (in-turn rest)

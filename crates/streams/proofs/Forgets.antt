@@ -13,7 +13,7 @@ use Rattle.coarse.specs.State.{World}
 use Rattle.coarse.specs.Steps.{Deed, Call, Response, near, score, rearm, discard, reset, ask, far, deed, refusalOf, called, making, Step}
 use Rattle.coarse.specs.Streams as streams
 use Rattle.coarse.specs.Streams.{Item, own, after, answers, heard, broughtBy, cleaned, CleanCall, cleanCall, Began, byMaking, byReset, Stream, resumed, firstKnown, earlyOf, lateOf, lengthsOf, fromTheseAlone, factsOf}
-use Rattle.coarse.specs.FourFacts.{AcceptedCall, acceptedCall, acceptedCalls, acceptedAnswers, fourFactsOf, fromFourFacts}
+use Rattle.coarse.specs.FourFacts.{AcceptedCall, acceptedCall, acceptedCalls, acceptedAnswers, fourFactsOf, fromFourFacts, PaperBuffers}
 use Rattle.coarse.proofs.Forgets.{forgets}
 use Rattle.coarse.proofs.FourFacts.{forgets-accepted}
 use Rattle.streams.specs.Happened.{Answered, one, byRules, Happened, Begun, made, afresh}
@@ -121,66 +121,85 @@ began rate ceiling w (afresh v _ r p q h a) =
 
 -- ---- the run as a stream
 
-pub record Streamed (rate ceiling block : ℕ) (w v : World) (earlier later : List Answered) : Type 0 where
-  pub before : List Call
-  pub since : List Call
-  pub earlierIs : earlier ≡ byRules w before
-  pub laterIs : later ≡ byRules v since
-  pub resumes : resumed fullSlack w (owned before) ≡ v
-  pub stream : Stream fullSlack rate ceiling block w (owned before) (owned since)
+-- a run, with the rules' steps in the place of the contracts
+pub record Traced (rate ceiling block : ℕ) (w e v u : World) (earlier later : List Answered) : Type 0 where
+  pub began : Began fullSlack rate ceiling w
+  pub before : Followed w earlier e
+  pub fair : Fair earlier
+  pub rearms : refusalOf (called fullSlack e (deed rearm) .response) ≡ none
+  pub resumes : called fullSlack e (deed rearm) .world ≡ v
+  pub since : Followed v later u
+  pub fairSince : Fair later
+  pub late : Late block later
 
-streamed : (rate ceiling block : ℕ) (w e v u : World) (earlier later : List Answered) → Ran rate ceiling block w e v u earlier later → Streamed rate ceiling block w v earlier later
-streamed rate ceiling block w e v u earlier later r =
-    let p = in-turn (r .before) in
-    let q = in-turn (r .since) in
+pub traced : {rate ceiling block : ℕ} {w e v u : World} {earlier later : List Answered} → Ran rate ceiling block w e v u earlier later → Traced rate ceiling block w e v u earlier later
+traced {rate} {ceiling} {block} {w} r =
     let s = happened (r .rearm) in
-    let at : after fullSlack w (owned (p .calls)) ≡ e = after-is (p .calls) w ∙ p .ends in
-    let resumes : resumed fullSlack w (owned (p .calls)) ≡ v = ap (λ (z : World). called fullSlack z (deed rearm) .world) at ∙ s .1 in
     record {
-      before = p .calls;
-      since = q .calls;
-      earlierIs = p .answered;
-      laterIs = q .answered;
-      resumes = resumes;
-      stream = record {
-        began = began rate ceiling w (r .begun);
-        fair = fair-are (p .calls) w (subst Fair (p .answered) (r .fair));
-        rearms = ap (λ (z : World). refusalOf (called fullSlack z (deed rearm) .response)) at ∙ ap refusalOf (s .0) ∙ r .rearms;
-        fairSince = subst (λ (z : World). streams.Fair fullSlack z (owned (q .calls))) (sym resumes) (fair-are (q .calls) v (subst Fair (q .answered) (r .fairSince)));
-        late = subst (λ (z : World). streams.Late fullSlack block z (owned (q .calls))) (sym resumes) (late-are block (q .calls) v (subst (Late block) (q .answered) (r .late)));
-      };
+      began = began rate ceiling w (r .begun);
+      before = in-turn (r .before);
+      fair = r .fair;
+      rearms = ap refusalOf (s .0) ∙ r .rearms;
+      resumes = s .1;
+      since = in-turn (r .since);
+      fairSince = r .fairSince;
+      late = r .late;
     }
+
+module _ (rate ceiling block : ℕ) (w e v u : World) (earlier later : List Answered) (r : Traced rate ceiling block w e v u earlier later) where
+  abbrev before : List Call
+  before = r .before .calls
+
+  abbrev since : List Call
+  since = r .since .calls
+
+  at : after fullSlack w (owned before) ≡ e
+  at = after-is before w ∙ r .before .ends
+
+  resumes : resumed fullSlack w (owned before) ≡ v
+  resumes = ap (λ (z : World). called fullSlack z (deed rearm) .world) at ∙ r .resumes
+
+  stream : Stream fullSlack rate ceiling block w (owned before) (owned since)
+  stream =
+      record {
+        began = r .began;
+        fair = fair-are before w (subst Fair (r .before .answered) (r .fair));
+        rearms = ap (λ (z : World). refusalOf (called fullSlack z (deed rearm) .response)) at ∙ r .rearms;
+        fairSince = subst (λ (z : World). streams.Fair fullSlack z (owned since)) (sym resumes) (fair-are since v (subst Fair (r .since .answered) (r .fairSince)));
+        late = subst (λ (z : World). streams.Late fullSlack block z (owned since)) (sym resumes) (late-are block since v (subst (Late block) (r .since .answered) (r .late)));
+      }
+
+  -- ---- its facts and answers
+
+  -- what the stream has since the rearm, from what the transcript has
+  carried : {A : Type 0} (of : List Answered → A) (by : World → List Item → A) → ((calls : List Call) (z : World) → of (byRules z calls) ≡ by z (owned calls)) → of later ≡ by (resumed fullSlack w (owned before)) (owned since)
+  carried of by are = ap of (r .since .answered) ∙ are since v ∙ ap (λ (z : World). by z (owned since)) (sym resumes)
+
+  heards : heard fullSlack w (owned before) ≡ heardIn earlier
+  heards = sym (ap heardIn (r .before .answered) ∙ heard-are before w)
+
+  pub traced-forgets : answersIn later ≡ fromTheseAlone fullSlack (factsIn rate ceiling block w earlier later)
+  traced-forgets =
+      let known = firstKnown rate block in
+      let calls = sym (carried (cleanedIn known) (cleaned fullSlack known) (cleaned-are known)) in
+      let facts : factsOf fullSlack rate ceiling block w (owned before) (owned since) ≡ factsIn rate ceiling block w earlier later =
+      λ i. record { rate = rate; ceiling = ceiling; lengths = lengthsOf (w .buffers); early = earlyOf known 0 (heards i); late = lateOf known 0 (heards i); calls = calls i } in
+      carried answersIn (answers fullSlack) answers-are ∙ forgets fullSlack rate ceiling block w (owned before) (owned since) stream ∙ ap (fromTheseAlone fullSlack) facts
+
+  traced-accepted : PaperBuffers rate ceiling w → acceptedAnswersIn later ≡ fromFourFacts fullSlack block (fourFactsIn rate ceiling block earlier later)
+  traced-accepted lengths =
+      let more = sym (carried heardIn (heard fullSlack) heard-are) in
+      let calls = sym (carried acceptedIn (acceptedCalls fullSlack) accepted-are) in
+      let facts : fourFactsOf fullSlack rate ceiling block w (owned before) (owned since) ≡ fourFactsIn rate ceiling block earlier later =
+      λ i. record { rate = rate; ceiling = ceiling; known = drop (firstKnown rate block) (heards i ++ more i); count = length (heards i); calls = calls i } in
+      carried acceptedAnswersIn (acceptedAnswers fullSlack) accepted-answers-are
+      ∙ forgets-accepted fullSlack rate ceiling block w (owned before) (owned since) stream lengths
+      ∙ ap (fromFourFacts fullSlack block) facts
 
 -- ---- demand 3
 
 pub code-forgets : CodeForgets
-code-forgets rate ceiling block w e v u earlier later r =
-    let s = streamed rate ceiling block w e v u earlier later r in
-    let known = firstKnown rate block in
-    let heards : heard fullSlack w (owned (s .before)) ≡ heardIn earlier = sym (ap heardIn (s .earlierIs) ∙ heard-are (s .before) w) in
-    let calls : cleaned fullSlack known (resumed fullSlack w (owned (s .before))) (owned (s .since)) ≡ cleanedIn known later =
-    ap (λ (z : World). cleaned fullSlack known z (owned (s .since))) (s .resumes) ∙ sym (ap (cleanedIn known) (s .laterIs) ∙ cleaned-are known (s .since) v) in
-    let facts : factsOf fullSlack rate ceiling block w (owned (s .before)) (owned (s .since)) ≡ factsIn rate ceiling block w earlier later =
-    λ i. record { rate = rate; ceiling = ceiling; lengths = lengthsOf (w .buffers); early = earlyOf known 0 (heards i); late = lateOf known 0 (heards i); calls = calls i } in
-    ap answersIn (s .laterIs)
-    ∙ answers-are (s .since) v
-    ∙ ap (λ (z : World). answers fullSlack z (owned (s .since))) (sym (s .resumes))
-    ∙ forgets fullSlack rate ceiling block w (owned (s .before)) (owned (s .since)) (s .stream)
-    ∙ ap (fromTheseAlone fullSlack) facts
+code-forgets rate ceiling block w e v u earlier later r = traced-forgets rate ceiling block w e v u earlier later (traced r)
 
 pub code-forgets-accepted : CodeForgetsAccepted
-code-forgets-accepted rate ceiling block w e v u earlier later r lengths =
-    let s = streamed rate ceiling block w e v u earlier later r in
-    let first = firstKnown rate block in
-    let heards : heard fullSlack w (owned (s .before)) ≡ heardIn earlier = sym (ap heardIn (s .earlierIs) ∙ heard-are (s .before) w) in
-    let since : heard fullSlack (resumed fullSlack w (owned (s .before))) (owned (s .since)) ≡ heardIn later =
-    ap (λ (z : World). heard fullSlack z (owned (s .since))) (s .resumes) ∙ sym (ap heardIn (s .laterIs) ∙ heard-are (s .since) v) in
-    let calls : acceptedCalls fullSlack (resumed fullSlack w (owned (s .before))) (owned (s .since)) ≡ acceptedIn later =
-    ap (λ (z : World). acceptedCalls fullSlack z (owned (s .since))) (s .resumes) ∙ sym (ap acceptedIn (s .laterIs) ∙ accepted-are (s .since) v) in
-    let facts : fourFactsOf fullSlack rate ceiling block w (owned (s .before)) (owned (s .since)) ≡ fourFactsIn rate ceiling block earlier later =
-    λ i. record { rate = rate; ceiling = ceiling; known = drop first (heards i ++ since i); count = length (heards i); calls = calls i } in
-    ap acceptedAnswersIn (s .laterIs)
-    ∙ accepted-answers-are (s .since) v
-    ∙ ap (λ (z : World). acceptedAnswers fullSlack z (owned (s .since))) (sym (s .resumes))
-    ∙ forgets-accepted fullSlack rate ceiling block w (owned (s .before)) (owned (s .since)) (s .stream) lengths
-    ∙ ap (fromFourFacts fullSlack block) facts
+code-forgets-accepted rate ceiling block w e v u earlier later r lengths = traced-accepted rate ceiling block w e v u earlier later (traced r) lengths
