@@ -48,7 +48,7 @@ unfolding afterCalls
 afterCalls-append [] more w = refl
 afterCalls-append (c ∷ calls) more w = afterCalls-append calls more (called fullSlack w c .world)
 
-then : {w w' w'' : World} {t ts : List Answered} → Followed w t w' → Followed w' ts w'' → Followed w (t ++ ts) w''
+pub then : {w w' w'' : World} {t ts : List Answered} → Followed w t w' → Followed w' ts w'' → Followed w (t ++ ts) w''
 then {w} {w'} {w''} {t} {ts} f g =
     record {
       calls = f .calls ++ g .calls;

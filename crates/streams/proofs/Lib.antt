@@ -2,3 +2,4 @@ pub mod Made
 pub mod Runs
 pub mod Followed
 pub mod Forgets
+pub mod Passed

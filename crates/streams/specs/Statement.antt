@@ -2,17 +2,23 @@
 use Prim.Native.Nat.{ℕ, _+_, _*_, _≤_}
 use mathlib.Core.Path.{_≡_}
 use mathlib.Core.List.{List, [], _∷_, _++_}
+use mathlib.Core.Bool.{Bool, false}
 use lib.Dec.{T, eqb}
 use lib.ListN.{length, drop}
 use lib.Ieee.{Float, binary32, fits}
+use denote.Ref.{now}
+use Rattle.answers.specs.Numbers.{nextLongCount}
 use Rattle.answers.specs.Pick.{pick}
 use Rattle.answers.specs.Refusals.{none}
 use Rattle.coarse.specs.Bins.{fullSlack}
 use Rattle.coarse.specs.State.{World}
-use Rattle.coarse.specs.Steps.{Call, Response, near, score, rearm, discard, reset, ask, far, deed, refusalOf}
-use Rattle.coarse.specs.Streams.{AllF32, begins, CleanCall, Facts, cleanCall, firstKnown, earlyOf, lateOf, lengthsOf, fromTheseAlone}
+use Rattle.coarse.specs.Steps.{Call, Response, near, score, rearm, discard, reset, ask, far, deed, refusalOf, called, changes, takes, scores, reportsRegion, reportsFlag, reportsCount, reportsLevel, reportsSamples}
+use Rattle.coarse.specs.Streams.{AllF32, begins, CleanCall, Facts, cleanCall, firstKnown, earlyOf, lateOf, lengthsOf, asCall, cleanWorld, fromTheseAlone}
 use Rattle.coarse.specs.FourFacts.{AcceptedCall, acceptedCall, FourFacts, fromFourFacts, PaperBuffers}
-use Rattle.streams.specs.Happened.{Answered, one, Happened, InTurn, Begun}
+use Rattle.runs.specs.Runs.{passes, ran}
+use Rattle.runs.proofs.push_near_run.Kinds as push-near-run-kinds
+use Rattle.runs.proofs.push_near_run.Reads as push-near-run-reads
+use Rattle.streams.specs.Happened.{Return, Answered, one, byRules, Happened, InTurn, Begun}
 
 -- ---- what the calls keep to
 
@@ -108,6 +114,34 @@ fourFactsIn rate ceiling block earlier later =
       calls = acceptedIn later;
     }
 
+-- ---- how many samples of a run pass: what a run answers
+
+abbrev pub passing : Response → Bool
+passing (takes t) = passes t
+passing (changes c) = false
+passing (scores f) = false
+passing (reportsRegion r) = false
+passing (reportsFlag r) = false
+passing (reportsCount r) = false
+passing (reportsLevel r) = false
+passing (reportsSamples r) = false
+
+-- the samples that a run tries, each as a call of its own: up to the first that does not pass, and that one too
+unfoldable pub tried : World → List Float → ℕ → List Call
+tried w [] index = []
+tried w (x ∷ xs) index =
+    let s = called fullSlack w (deed (near x index)) in
+    deed (near x index) ∷ pick (passing (s .response)) (tried (s .world) xs (nextLongCount index)) []
+
+-- the rules' state and buffers after these facts
+unfoldable pub cleanAfter : World → List CleanCall → World
+cleanAfter w [] = w
+cleanAfter w (c ∷ calls) = cleanAfter (called fullSlack w (asCall c) .world) calls
+
+-- so many samples of a run pass then
+abbrev pub passedAfter : Facts → List Float → ℕ → ℕ
+passedAfter f xs index = let w = cleanAfter (cleanWorld fullSlack f) (f .calls) in ran (w .scan) (w .buffers .levels) xs index .passed
+
 -- ---- the statements
 
 -- The answers that the functions returned since the rearm are what the rules give from the allowed facts alone.
@@ -121,3 +155,12 @@ abbrev pub CodeForgetsAccepted : Type 0
 CodeForgetsAccepted =
     (rate ceiling block : ℕ) (w e v u : World) (earlier later : List Answered) → Ran rate ceiling block w e v u earlier later → PaperBuffers rate ceiling w
     → acceptedAnswersIn later ≡ fromFourFacts fullSlack block (fourFactsIn rate ceiling block earlier later)
+
+-- And a run of near samples on what the calls since the rearm left: how many pass is what the rules give from the facts of these calls alone.
+abbrev pub CodeForgetsPassed : Type 0
+CodeForgetsPassed =
+    (rate ceiling block : ℕ) (w e v u : World) (earlier later : List Answered) → Ran rate ceiling block w e v u earlier later
+    → (f : Return 2 push-near-run-kinds.ps push-near-run-kinds.r push-near-run-reads.Post) → u .scan ≡ f .given .0 → u .buffers .levels ≡ now (f .given .1 .0)
+    → let xs = now (f .given .1 .1 .0) in
+    let first = f .given .1 .1 .1 .0 in
+    Fair (byRules u (tried u xs first)) → Late block (byRules u (tried u xs first)) → f .result .passed ≡ passedAfter (factsIn rate ceiling block w earlier later) xs first
