@@ -17,7 +17,7 @@ use Rattle.coarse.specs.State.{World, finished}
 use Rattle.coarse.specs.Blocks.{dropped}
 use Rattle.coarse.specs.Scoring.{quiet, flat, peakOf, addScores, averagesOf, decision, Ruling, ruling}
 use Rattle.coarse.specs.Calls.{FarPush, NearPush, Observation, Clearing, Restart, farRefusal, pushedFar, nearRefusal, pushedNear, frameOf, windowIn, isUncovered, isAhead, countedBy, scoreRefusal, counted, judged, scoredFrame, observed, clearRefusal, rearmed, discarded, resetRefusal, wasReset}
-use Rattle.coarse.specs.Steps.{Call, near, score, rearm, discard, reset, ask, far, deed, refusalOf, changes, scores, Response, called}
+use Rattle.coarse.specs.Steps.{Call, near, score, rearm, discard, reset, ask, far, deed, refusalOf, changes, scores, called}
 use Rattle.coarse.specs.Streams.{Item, own, foreign, after, Began}
 use Rattle.coarse.specs.Along.{along}
 use Rattle.coarse.specs.Banked.{counts, scoresIn, countOn, countedSince, sumsFrom, sumsOf, SumsOfCounted, answerBy, DecidesOnFour}

@@ -3,7 +3,7 @@ use Prim.Native.Nat.{ℕ, zero, suc, _<_}
 use mathlib.Core.Path.{_≡_, refl, sym, subst}
 use mathlib.Core.Logic.{_⊎_, inl, inr, ⊎-elim}
 use mathlib.Core.List.{List}
-use mathlib.Core.Bool.{Bool, true, false}
+use mathlib.Core.Bool.{true, false}
 use native.Mathlib.Nat.{eq-or-lt-of-le, not-suc-le-zero}
 use native.Mathlib.Omega.{arith}
 use lib.Dec.{leb}
@@ -16,7 +16,7 @@ use Rattle.folds.specs.Sums.{at}
 use Rattle.folds.proofs.Greatest.{Positive, lt-trans, lt-self, above-zero, decided, refuted}
 use Rattle.coarse.specs.Bins.{lags}
 use Rattle.coarse.specs.Scoring.{rivalUpto, rivalOf}
-use Rattle.coarse.specs.Rival.{Outside, NoRival, GreatestRival, FindsRival}
+use Rattle.coarse.specs.Rival.{Outside, FindsRival}
 use Rattle.coarse.specs.declared.Geometry.{Geometry}
 
 module _ (g : Geometry) (averages : List Float) (k : ℕ) where

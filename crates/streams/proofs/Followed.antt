@@ -3,7 +3,7 @@ use mathlib.Core.Path.{_≡_, refl, sym, ap, _∙_, subst}
 use mathlib.Core.List.{List, [], _∷_, _++_}
 use Rattle.coarse.specs.Bins.{fullSlack}
 use Rattle.coarse.specs.State.{World}
-use Rattle.coarse.specs.Steps.{Call, Response, called, Step, step}
+use Rattle.coarse.specs.Steps.{Call, called, Step}
 use Rattle.coarse.proofs.FourFacts.{unchanged}
 use Rattle.streams.specs.Happened.{Answered, one, byRules, AllRefused, Happened, InTurn, by-push-far, by-push-near, by-push-near-run, by-observe, by-rearm, by-discard-near, by-reset, by-bin-samples, by-ceiling-samples, by-region, by-beyond-ceiling, by-frames, by-correlation, by-finished, by-exhausted, none-more, next, foreign}
 use Rattle.streams.proofs.Runs.{afterCalls, push-near-run-steps}

@@ -5,12 +5,11 @@ use mathlib.Core.List.{List, [], _∷_, _++_}
 use native.Mathlib.Omega.{arith}
 use lib.Dec.{eqb}
 use lib.ListN.{length, drop}
-use lib.Ieee.{Float}
 use Rattle.answers.specs.Pick.{pick}
 use Rattle.answers.specs.Refusals.{none}
 use Rattle.coarse.specs.Bins.{fullSlack}
 use Rattle.coarse.specs.State.{World}
-use Rattle.coarse.specs.Steps.{Deed, Call, Response, near, score, rearm, discard, reset, ask, far, deed, refusalOf, called, making, Step}
+use Rattle.coarse.specs.Steps.{Call, Response, near, score, rearm, discard, reset, ask, far, deed, refusalOf, called, making, Step}
 use Rattle.coarse.specs.Streams as streams
 use Rattle.coarse.specs.Streams.{Item, own, after, answers, heard, broughtBy, cleaned, CleanCall, cleanCall, Began, byMaking, byReset, Stream, resumed, firstKnown, earlyOf, lateOf, lengthsOf, fromTheseAlone, factsOf}
 use Rattle.coarse.specs.FourFacts.{AcceptedCall, acceptedCall, acceptedCalls, acceptedAnswers, fourFactsOf, fromFourFacts, PaperBuffers}

@@ -1,12 +1,12 @@
 -- Whatever a function's own contract admits is the step of `called` for that call, and a making is `making`.
-use mathlib.Core.Path.{_≡_, sym, ap, _∙_}
+use mathlib.Core.Path.{_≡_, ap}
 use mathlib.Core.List.{List}
 use lib.Ieee.{Float}
 use denote.Ref.{now}
 use Rattle.coarse.specs.Bins.{fullSlack}
 use Rattle.coarse.specs.State.{Buffers, World}
 use Rattle.coarse.specs.Calls.{FarPush, NearPush, Clearing, Restart}
-use Rattle.coarse.specs.Steps.{near, score, rearm, discard, reset, ask, far, deed, called, making, Step, step, reportsCount, reportsFlag, reportsLevel, reportsRegion, reportsSamples, «bin_samples», «ceiling_samples», region, «beyond_ceiling», frames, correlation, finished, exhausted}
+use Rattle.coarse.specs.Steps.{near, score, rearm, discard, reset, ask, far, deed, called, making, step, reportsCount, reportsFlag, reportsLevel, reportsRegion, reportsSamples, «bin_samples», «ceiling_samples», region, «beyond_ceiling», frames, correlation, finished, exhausted}
 use Rattle.coarse.proofs.Contracts.{farStep, nearStep, scoreStep, clearStep, resetStep, far-called, near-called, score-called, rearm-called, discard-called, reset-called, report-called, making-called}
 use Rattle.coarse.specs.declared.Changed.{Changed}
 use Rattle.coarse.specs.declared.Took.{Took}

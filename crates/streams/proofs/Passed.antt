@@ -11,16 +11,15 @@ use Rattle.answers.specs.Numbers.{nextLongCount}
 use Rattle.answers.specs.Pick.{pick, pick-true}
 use Rattle.coarse.specs.Bins.{fullSlack}
 use Rattle.coarse.specs.State.{World}
-use Rattle.coarse.specs.Calls.{pushedNear}
-use Rattle.coarse.specs.Steps.{Call, Response, near, deed, called, takes}
+use Rattle.coarse.specs.Steps.{Call, Response, near, deed, called}
 use Rattle.coarse.specs.Streams.{CleanCall, asCall, cleanWorld, cleanAnswers, cleanCall, fromTheseAlone, firstKnown}
 use Rattle.coarse.proofs.Laws.{pick-both}
 use Rattle.runs.specs.declared.Ran.{Ran}
-use Rattle.runs.specs.Runs.{Run, passes, rests, further, ran}
+use Rattle.runs.specs.Runs.{Run, rests, further, ran}
 use Rattle.streams.specs.Happened.{Answered, byRules}
-use Rattle.streams.specs.Statement.{Fair, Late, answersIn, cleanedIn, factsIn, passing, tried, cleanAfter, passedAfter, CodeForgetsPassed}
+use Rattle.streams.specs.Statement.{Fair, Late, answersIn, cleanedIn, factsIn, passing, tried, cleanAfter, CodeForgetsPassed}
 use Rattle.streams.proofs.Runs.{afterCalls}
-use Rattle.streams.proofs.Followed.{Followed, then}
+use Rattle.streams.proofs.Followed.{then}
 use Rattle.streams.proofs.Forgets.{Traced, traced, traced-forgets}
 
 -- ---- a transcript with more calls

@@ -13,7 +13,7 @@ use Rattle.answers.specs.Numbers.{nextLongCount}
 use Rattle.answers.specs.Refusals.{none}
 use Rattle.coarse.specs.Bins.{fullSlack}
 use Rattle.coarse.specs.State.{Buffers, World}
-use Rattle.coarse.specs.Steps.{Report, Call, Response, near, score, rearm, discard, reset, ask, far, deed, refusalOf, called, changes, takes, scores, reportsCount, reportsFlag, reportsLevel, reportsRegion, reportsSamples, «bin_samples», «ceiling_samples», region, «beyond_ceiling», frames, correlation, finished, exhausted, withEnvelope, withLevels, withLagSums}
+use Rattle.coarse.specs.Steps.{Call, Response, near, score, rearm, discard, reset, ask, far, deed, refusalOf, called, changes, takes, scores, reportsCount, reportsFlag, reportsLevel, reportsRegion, reportsSamples, «bin_samples», «ceiling_samples», region, «beyond_ceiling», frames, correlation, finished, exhausted, withEnvelope, withLevels, withLagSums}
 use Rattle.scoring.specs.Observing.{world, lent}
 use Rattle.scan.proofs.new.Kinds as new-kinds
 use Rattle.scan.proofs.new.Reads as new-reads
