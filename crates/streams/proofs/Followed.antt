@@ -1,13 +1,18 @@
 -- What happened is what the rules say: the calls of a program, each with its answer, are those calls as the rules answer them in turn.
+use Prim.Native.Nat.{ℕ}
 use mathlib.Core.Path.{_≡_, refl, sym, ap, _∙_, subst}
 use mathlib.Core.List.{List, [], _∷_, _++_}
+use Rattle.answers.specs.Refusals.{none}
 use Rattle.coarse.specs.Bins.{fullSlack}
-use Rattle.coarse.specs.State.{World}
-use Rattle.coarse.specs.Steps.{Call, called, Step}
+use Rattle.coarse.specs.State.{Buffers, World}
+use Rattle.coarse.specs.Calls.{Restart, makingRefusal, made}
+use Rattle.coarse.specs.Steps.{Call, refusalOf, changes, called, making, Step}
+use Rattle.coarse.proofs.Laws.{unless-case}
+use Rattle.coarse.proofs.Contracts.{resetStep}
 use Rattle.coarse.proofs.FourFacts.{unchanged}
-use Rattle.streams.specs.Happened.{Answered, one, byRules, AllRefused, Happened, InTurn, by-push-far, by-push-near, by-push-near-run, by-observe, by-rearm, by-discard-near, by-reset, by-bin-samples, by-ceiling-samples, by-region, by-beyond-ceiling, by-frames, by-correlation, by-finished, by-exhausted, none-more, next, foreign}
+use Rattle.streams.specs.Happened.{Answered, one, byRules, AllRefused, Happened, InTurn, by-push-far, by-push-near, by-push-near-run, by-observe, by-rearm, by-discard-near, by-reset, by-bin-samples, by-ceiling-samples, by-region, by-beyond-ceiling, by-frames, by-correlation, by-finished, by-exhausted, none-more, next, foreign, unmade}
 use Rattle.streams.proofs.Runs.{afterCalls, push-near-run-steps}
-use Rattle.streams.proofs.Made.{push-far-steps, push-near-steps, observe-steps, rearm-steps, discard-near-steps, reset-steps, bin-samples-steps, ceiling-samples-steps, region-steps, beyond-ceiling-steps, frames-steps, correlation-steps, finished-steps, exhausted-steps}
+use Rattle.streams.proofs.Made.{new-steps, push-far-steps, push-near-steps, observe-steps, rearm-steps, discard-near-steps, reset-steps, bin-samples-steps, ceiling-samples-steps, region-steps, beyond-ceiling-steps, frames-steps, correlation-steps, finished-steps, exhausted-steps}
 
 pub record Followed (w : World) (t : List Answered) (w' : World) : Type 0 where
   pub calls : List Call
@@ -64,6 +69,11 @@ refused-unchanged (c ∷ calls) w r =
     let e = unchanged fullSlack w c (r .0) in
     ap (λ (z : World). afterCalls z calls) e ∙ refused-unchanged calls w (subst (λ (z : World). AllRefused (byRules z calls)) e (r .1))
 
+making-unchanged : (rate ceiling : ℕ) (b : Buffers) → (refusalOf (making fullSlack rate ceiling b .response) ≡ none → ⊥) → making fullSlack rate ceiling b .world .buffers ≡ b
+unfolding making made
+making-unchanged rate ceiling b =
+    unless-case (λ (p : Restart). (refusalOf (changes (p .changed .answer)) ≡ none → ⊥) → resetStep b p .world .buffers ≡ b) (makingRefusal fullSlack rate ceiling (b .envelope) (b .lagSums)) _ _ (λ r f. refl) (λ z f. absurd (f refl))
+
 pub in-turn : {w w' : World} {t : List Answered} → InTurn w t w' → Followed w t w'
 unfolding byRules afterCalls
 in-turn (none-more w) = record { calls = []; answered = refl; ends = refl }
@@ -72,3 +82,7 @@ in-turn (foreign {v} {v'} {w'} {other} {later} around h r rest) =
     let f = followed h in
     let same : v ≡ v' = sym (refused-unchanged (f .calls) v (subst AllRefused (f .answered) r)) ∙ f .ends in
     subst (λ (z : World). Followed z later w') (ap around (sym same)) (in-turn rest)
+in-turn (unmade {w'} {later} around f b e l r rest) =
+    let s = new-steps f b e l in
+    let same = ap (λ (z : Step). z .world .buffers) s ∙ making-unchanged (f .given .0) (f .given .1 .0) b (λ z. r (ap (λ (z : Step). refusalOf (z .response)) s ∙ z)) in
+    subst (λ (z : World). Followed z later w') (ap around same) (in-turn rest)

@@ -119,12 +119,15 @@ abbrev pub AllRefused : List Answered → Type 0
 AllRefused [] = Unit {0}
 AllRefused (a ∷ rest) = (refusalOf (a .response) ≡ none → ⊥) × AllRefused rest
 
--- Each call was handed what the last returned; or it was handed anything else, and was refused. That call may have been lent some of the stream's own buffers: `around`
--- says what the stream's state and buffers are, given those that the call was handed, so that afterwards they hold what it left.
+-- Each call was handed what the last returned; or it was handed anything else, and was refused (`foreign`; `unmade`, of a making). Such a call may have been lent some of the
+-- stream's own buffers: `around` says what the stream's state and buffers are, given those that the call was handed, so that afterwards they hold what it left.
 pub data InTurn : World → List Answered → World → Type 0 where
   none-more : (w : World) → InTurn w [] w
   next : {w w' w'' : World} {now later : List Answered} → Happened w now w' → InTurn w' later w'' → InTurn w (now ++ later) w''
   foreign : {v v' w' : World} {other later : List Answered} (around : World → World) → Happened v other v' → AllRefused other → InTurn (around v') later w' → InTurn (around v) later w'
+  unmade : {w' : World} {later : List Answered} (around : Buffers → World) (f : Return 2 new-kinds.ps new-kinds.r new-reads.Post) (b : Buffers)
+      → b .envelope ≡ now (f .given .1 .1 .0) → b .lagSums ≡ now (f .given .1 .1 .1 .0) → (refusalOf (changes (f .result .answer)) ≡ none → ⊥)
+      → InTurn (around (withLagSums (withEnvelope b (now (f .left .1 .1 .0))) (now (f .left .1 .1 .1 .0)))) later w' → InTurn (around b) later w'
 
 -- ---- a stream began
 
