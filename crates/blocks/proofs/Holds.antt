@@ -48,6 +48,24 @@ same-sum ys x m (suc n) h =
     let b : at (ys ++ (x ∷ [])) (m + n) ≡ at ys (m + n) = earlier-at ys x (m + n) (omega arith) in
     rw (a, b)
 
+-- one sample more completes the sum of a block
+pub one-more : (ys : List Float) (x : Float) (m n : ℕ) (s : Float) → length ys ≡ m + n → s ≡ upto (λ i. magnitude (at ys (m + i))) n
+    → summed s x ≡ upto (λ i. magnitude (at (ys ++ (x ∷ [])) (m + i))) (n + 1)
+unfolding upto
+one-more ys x m n s l e =
+    let a = same-sum ys x m n (omega arith) in
+    let b : at (ys ++ (x ∷ [])) (m + n) ≡ x = last-at ys x (m + n) l in
+    rw (add-one, a, b, e)
+
+pub earlier-block : (g : Geometry) (ys : List Float) (x : Float) (j next : ℕ) → j < next → next * g .decimation ≤ length ys → levelOfBlock g j ys ≡ levelOfBlock g j (ys ++ (x ∷ []))
+earlier-block g ys x j next h l =
+    let m : (j + 1) * g .decimation ≤ next * g .decimation = mul-le-mul-right (g .decimation) (omega arith) in
+    let k : (j + 1) * g .decimation ≡ j * g .decimation + g .decimation = add-mul j 1 (g .decimation) ∙ ap (λ (z : ℕ). j * g .decimation + z) (one-mul (g .decimation)) in
+    ap (levelOf g) (sym (same-sum ys x (j * g .decimation) (g .decimation) (omega arith)))
+
+pub length-more : (ys : List Float) (x : Float) → length (ys ++ (x ∷ [])) ≡ length ys + 1
+length-more ys x = length-append ys (x ∷ [])
+
 module _ (slack : ℕ) (g : Geometry) (some : 0 < g .decimation) (room : 0 < envelopeLen slack g) where
   -- after the samples ys the far side is h
   record Kept (ys : List Float) (h : Heard) : Type 0 where
@@ -56,24 +74,6 @@ module _ (slack : ℕ) (g : Geometry) (some : 0 < g .decimation) (room : 0 < env
     pub partial : h .far .count < g .decimation
     pub sum : h .far .sum ≡ upto (λ i. magnitude (at ys (h .far .next * g .decimation + i))) (h .far .count)
     pub holds : (j : ℕ) → j < h .far .next → h .far .next ≤ j + envelopeLen slack g → at (h .envelope) (j % envelopeLen slack g) ≡ levelOfBlock g j ys
-
-  -- one sample more completes the sum of a block
-  one-more : (ys : List Float) (x : Float) (m n : ℕ) (s : Float) → length ys ≡ m + n → s ≡ upto (λ i. magnitude (at ys (m + i))) n
-      → summed s x ≡ upto (λ i. magnitude (at (ys ++ (x ∷ [])) (m + i))) (n + 1)
-  unfolding upto
-  one-more ys x m n s l e =
-      let a = same-sum ys x m n (omega arith) in
-      let b : at (ys ++ (x ∷ [])) (m + n) ≡ x = last-at ys x (m + n) l in
-      rw (add-one, a, b, e)
-
-  earlier-block : (ys : List Float) (x : Float) (j next : ℕ) → j < next → next * g .decimation ≤ length ys → levelOfBlock g j ys ≡ levelOfBlock g j (ys ++ (x ∷ []))
-  earlier-block ys x j next h l =
-      let m : (j + 1) * g .decimation ≤ next * g .decimation = mul-le-mul-right (g .decimation) (omega arith) in
-      let k : (j + 1) * g .decimation ≡ j * g .decimation + g .decimation = add-mul j 1 (g .decimation) ∙ ap (λ (z : ℕ). j * g .decimation + z) (one-mul (g .decimation)) in
-      ap (levelOf g) (sym (same-sum ys x (j * g .decimation) (g .decimation) (omega arith)))
-
-  length-more : (ys : List Float) (x : Float) → length (ys ++ (x ∷ [])) ≡ length ys + 1
-  length-more ys x = length-append ys (x ∷ [])
 
   hears : (ys : List Float) (h : Heard) (x : Float) → Kept ys h → Kept (ys ++ (x ∷ [])) (hear slack g h x)
   unfolding hear upto
@@ -102,7 +102,7 @@ module _ (slack : ℕ) (g : Geometry) (some : 0 < g .decimation) (room : 0 < env
             (λ (less : j < next).
             getD-set-other (h .envelope) (next % L) (j % L) level nan (other-slot j next L less (omega arith))
             ∙ k .holds j less (omega arith)
-            ∙ earlier-block ys x j next less (omega (arith, k .placed)))
+            ∙ earlier-block g ys x j next less (omega (arith, k .placed)))
             (eq-or-lt-of-le (omega arith));
       })
       (λ t. record {
@@ -110,7 +110,7 @@ module _ (slack : ℕ) (g : Geometry) (some : 0 < g .decimation) (room : 0 < env
         placed = omega (arith, more, k .placed);
         partial = omega (arith, k .partial, eqb-false (count + 1) (g .decimation) t);
         sum = total;
-        holds = λ j below kept. k .holds j below kept ∙ earlier-block ys x j next below (omega (arith, k .placed));
+        holds = λ j below kept. k .holds j below kept ∙ earlier-block g ys x j next below (omega (arith, k .placed));
       })
 
   hears-all : (ys xs : List Float) (h : Heard) → Kept ys h → Kept (ys ++ xs) (hearAll slack g h xs)

@@ -1,14 +1,14 @@
--- A call, from what the contract of its function says of the result and the lent buffers. What a function hands back is what its contract's right-hand side gives, so that a
--- host's calls, each handed what the last returned, are the steps of `called`.
+-- A call, from what the contract of its function says of the result and the lent buffers: what a function hands back is what its contract's right-hand side gives, and that is the
+-- step of `called`.
 use Prim.Native.Nat.{ℕ}
-use mathlib.Core.Path.{_≡_, refl, ap, ap₂, _∙_}
-use mathlib.Core.List.{List, [], _∷_}
+use mathlib.Core.Path.{_≡_, refl, ap}
+use mathlib.Core.List.{List}
 use lib.Ieee.{Float}
 use Rattle.coarse.specs.State.{Buffers, World}
 use Rattle.coarse.specs.Calls.{Observation, FarPush, NearPush, Clearing, Restart, made, resetRefusal, wasReset, pushedFar, pushedNear, observed, rearmed, discarded}
-use Rattle.coarse.specs.Steps.{Report, Call, Response, reported, near, score, rearm, discard, reset, ask, far, deed, refusalOf, changes, takes, scores, Step, step, withEnvelope, withLevels, withLagSums, called, making}
+use Rattle.coarse.specs.Steps.{Report, Response, reported, near, score, rearm, discard, reset, ask, far, deed, refusalOf, changes, takes, scores, Step, step, withEnvelope, withLevels, withLagSums, called, making}
 use Rattle.answers.specs.Refusals.{none}
-use Rattle.coarse.specs.Streams.{Item, own, answers, refused}
+use Rattle.coarse.specs.Streams.{refused}
 use Rattle.coarse.proofs.Laws.{unless-case}
 
 abbrev pub farStep : Buffers → FarPush → Step
@@ -66,31 +66,3 @@ module _ (slack : ℕ) (w : World) where
 pub making-called : (slack rate ceiling : ℕ) (lent : Buffers) (p : Restart) → p ≡ made slack rate ceiling (lent .envelope) (lent .lagSums) → resetStep lent p ≡ making slack rate ceiling lent
 unfolding making
 making-called slack rate ceiling lent p e = ap (resetStep lent) e
-
--- ---- calls made one after the other
-
--- a call that was made, and the step that the result of its function gave
-pub record Made : Type 0 where
-  pub call : Call
-  pub step : Step
-
--- each was handed what the last returned
-abbrev pub InTurn : ℕ → World → List Made → Type 0
-InTurn slack w [] = Unit {0}
-InTurn slack w (m ∷ rest) = (m .step ≡ called slack w (m .call)) × InTurn slack (m .step .world) rest
-
-abbrev pub asItems : List Made → List Item
-asItems [] = []
-asItems (m ∷ rest) = own (m .call) ∷ asItems rest
-
-abbrev pub answered : List Made → List Response
-answered [] = []
-answered (m ∷ rest) = m .step .response ∷ answered rest
-
--- what was answered is what the stream of these calls answers
-pub made-answers : (slack : ℕ) (calls : List Made) (w : World) → InTurn slack w calls → answered calls ≡ answers slack w (asItems calls)
-unfolding answers
-made-answers slack [] w h = refl
-made-answers slack (m ∷ rest) w h =
-    ap₂ {A = Response} {B = List Response} (λ (a : Response) (r : List Response). a ∷ r) (ap (λ (s : Step). s .response) (h .0))
-    (made-answers slack rest (m .step .world) (h .1) ∙ ap (λ (s : Step). answers slack (s .world) (asItems rest)) (h .0))
