@@ -359,7 +359,7 @@ impl Fine {
         SamplesReport::of(self.refusal(), Samples(lengths.span as u64))
     }
 
-    // How far back from the near frame's end the far window starts.
+    // How far back from the near frame's start the far window starts.
     pub fn window_back_off(self) -> SamplesReport
         ensures { λ r. ⌜ r ≡ windowBackOff self ⌝ }
     {
