@@ -24,6 +24,22 @@ binRateOf rate = max 1 (rate / decimationOf rate)
 abbrev pub msInBins : ℕ → ℕ → ℕ
 msInBins rate ms = max 1 (ms * binRateOf rate / 1000)
 
+-- frames averaged before a region is named (COARSE_MIN_FRAMES)
+abbrev pub coarseMinFrames : ℕ
+coarseMinFrames = 4
+
+-- one coarse frame (COARSE_FRAME_MS)
+abbrev pub coarseFrameMs : ℕ
+coarseFrameMs = 256
+
+-- A peak this close to the ceiling may be the slope of one beyond it, so it is no region but sets the flag (COARSE_CEILING_GUARD_MS).
+abbrev pub ceilingGuardMs : ℕ
+ceilingGuardMs = 8
+
+-- Averages this close to the peak belong to it, and are no rivals of it (COARSE_PEAK_GUARD_MS).
+abbrev pub peakGuardMs : ℕ
+peakGuardMs = 30
+
 unfoldable pub geometryOf : ℕ → ℕ → Geometry
 geometryOf rate ceiling =
     record {
@@ -32,9 +48,9 @@ geometryOf rate ceiling =
       decimation = decimationOf rate;
       «bin_rate» = binRateOf rate;
       span = msInBins rate ceiling;
-      frame = msInBins rate 256;
-      «ceiling_guard» = msInBins rate 8;
-      «peak_guard» = msInBins rate 30;
+      frame = msInBins rate coarseFrameMs;
+      «ceiling_guard» = msInBins rate ceilingGuardMs;
+      «peak_guard» = msInBins rate peakGuardMs;
     }
 
 -- decimation, bin rate, span, frame and guards of both are the same
@@ -49,7 +65,7 @@ sameGeometry g h =
 
 -- ---- the lent buffers
 
--- how many bins the far envelope keeps beyond the window
+-- How many bins the far envelope keeps beyond the window (COARSE_RING_SLACK_BINS): as much as the host's own far ring keeps beyond its window, so that both histories expire together.
 abbrev pub fullSlack : ℕ
 fullSlack = 4000
 

@@ -13,7 +13,7 @@ use Rattle.floats.specs.Functions.{zero64, whole, narrow, root}
 use Rattle.folds.specs.Sums.{upto, table, zeros, at, square, sumOf, prefixSums, prefixSquares}
 use Rattle.folds.specs.Search.{searchDown}
 use Rattle.folds.specs.declared.Peak.{Peak}
-use Rattle.coarse.specs.Bins.{windowLen, envelopeLen, lags}
+use Rattle.coarse.specs.Bins.{coarseMinFrames, windowLen, envelopeLen, lags}
 use Rattle.coarse.specs.State.{present}
 use Rattle.coarse.specs.declared.Geometry.{Geometry}
 use Rattle.coarse.specs.declared.Region.{Region}
@@ -25,21 +25,33 @@ use Rattle.coarse.specs.declared.Frame.the-variants as frame
 
 -- ---- the f64 literals, by their bits
 
--- 3.1622777e-4
+-- 3.1622777e-4, the mean level that the far window must pass (COARSE_FAR_ACTIVE_FLOOR): silence says nothing of a delay
 abbrev pub activeFloor : Float
 activeFloor = ofBits binary64 0x3f34b96bee24033f
 
--- 1e-12
+-- 1e-12 (COARSE_VARIANCE_FLOOR): a guard against dividing by nothing, so that a flat stretch scores exactly 0. It is no gate on the level.
 abbrev pub energyFloor : Float
 energyFloor = ofBits binary64 0x3d719799812dea11
 
--- 0.25, which a peak must reach, and by which the sum of four frames is multiplied
-abbrev pub quarter : Float
-quarter = ofBits binary64 0x3fd0000000000000
+-- 0.25, which the averaged peak must reach (COARSE_CONFIDENT_CORR)
+abbrev pub confidentCorrelation : Float
+confidentCorrelation = ofBits binary64 0x3fd0000000000000
 
--- 1.5
-abbrev pub clearance : Float
-clearance = ofBits binary64 0x3ff8000000000000
+-- 0.25, by which the sum of four frames is multiplied to make their average
+abbrev pub oneFourth : Float
+oneFourth = ofBits binary64 0x3fd0000000000000
+
+-- 1.5, how far the peak must stand above the best rival (COARSE_SIDELOBE_RATIO)
+abbrev pub sidelobeRatio : Float
+sidelobeRatio = ofBits binary64 0x3ff8000000000000
+
+-- counted frames without a region after which the scan gives up (COARSE_GIVE_UP_FRAMES), so that a stream whose delay cannot be found costs no more
+abbrev pub giveUpFrames : ℕ
+giveUpFrames = 64
+
+-- at most this part of the frame may still be unwritten at the window's end (COARSE_TAIL_DEFICIT_DEN)
+abbrev pub tailDeficitPart : ℕ
+tailDeficitPart = 4
 
 -- ---- the frame starts at bin s; its window is bins s - span to s + frame - 1. `next` is the next far block: bins below it are written.
 
@@ -49,7 +61,7 @@ uncovered slack g next s = either (ltb s (g .span)) (ltb (s - g .span) (next - e
 
 -- 2. ahead: more than frame / 4 of the window's last bins are not yet written
 unfoldable pub ahead : Geometry → ℕ → ℕ → Bool
-ahead g next s = ltb (g .frame / 4) (s + g .frame - next)
+ahead g next s = ltb (g .frame / tailDeficitPart) (s + g .frame - next)
 
 -- bin j, which stands at j modulo the envelope length; unwritten bins read as 0
 abbrev pub binAt : ℕ → Geometry → ℕ → List Float → ℕ → Float
@@ -115,7 +127,7 @@ addScores g lagSums scores = table (λ k. add binary64 (at lagSums k) (at scores
 
 -- sums are multiplied by 0.25
 unfoldable pub averagesOf : Geometry → List Float → List Float
-averagesOf g lagSums = table (λ k. mul binary64 (at lagSums k) quarter) (lags g)
+averagesOf g lagSums = table (λ k. mul binary64 (at lagSums k) oneFourth) (lags g)
 
 -- delay in bins is span - k
 abbrev pub delayAt : Geometry → ℕ → Bins
@@ -138,13 +150,13 @@ rivalOf g averages k = rivalUpto g averages k (lags g)
 
 -- that is above 0 and the peak is below 1.5 times it
 unfoldable pub crowdedBy : Float → Float → Bool
-crowdedBy rival peak = both (lt zero64 rival) (lt peak (mul binary64 clearance rival))
+crowdedBy rival peak = both (lt zero64 rival) (lt peak (mul binary64 sidelobeRatio rival))
 
 -- the averages searched from span down with strict >. Then in order: weak, ceiling, crowded, region.
 unfoldable pub decision : Geometry → List Float → Frame
 decision g averages =
     let peak = searchDown averages in
-    pick (lt (peak .value) quarter) frame.Weak
+    pick (lt (peak .value) confidentCorrelation) frame.Weak
     (pick (atCeiling g (delayAt g (peak .at))) frame.Ceiling
     (pick (crowdedBy (rivalOf g averages (peak .at)) (peak .value)) frame.Crowded
     (frame.Region (record { delay = inSamples (g .decimation) (delayAt g (peak .at)); correlation = peak .value }))))
@@ -175,7 +187,7 @@ beyondBy (frame.Region r) b = false
 
 -- ---- 8. 64 or more frames now count without a region: the scan is exhausted
 abbrev pub exhaustedBy : ℕ → Found → Bool → Bool
-exhaustedBy frames found before = either before (both (leb 64 frames) (not (present found)))
+exhaustedBy frames found before = either before (both (leb giveUpFrames frames) (not (present found)))
 
 -- ---- 5 to 8 together
 
@@ -201,7 +213,7 @@ pub record Ruling : Type 0 where
 unfoldable pub ruling : Geometry → Verdict → Float → List Float → Ruling
 ruling g v peak lagSums =
     let fourth = decision g (averagesOf g lagSums) in
-    pick (ltb (v .banked + 1) 4)
+    pick (ltb (v .banked + 1) coarseMinFrames)
     (record { answer = frame.Banked (narrow peak); verdict = verdictBy v peak (frame.Banked (narrow peak)) (v .banked + 1); lagSums = lagSums })
     (record { answer = fourth; verdict = verdictBy v peak fourth 0; lagSums = zeros (lags g) })
 

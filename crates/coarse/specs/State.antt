@@ -9,7 +9,7 @@ use Rattle.answers.specs.Pick.{both, either}
 use Rattle.answers.specs.Refusals.{require, none, outsideTable, wrongLength, brokenState}
 use Rattle.answers.specs.Numbers.{limit}
 use Rattle.floats.specs.Functions.{zero64}
-use Rattle.coarse.specs.Bins.{inTable, geometryOf, sameGeometry}
+use Rattle.coarse.specs.Bins.{coarseMinFrames, inTable, geometryOf, sameGeometry}
 use Rattle.coarse.specs.declared.Geometry.{Geometry}
 use Rattle.coarse.specs.declared.Far.{Far}
 use Rattle.coarse.specs.declared.Near.{Near}
@@ -93,7 +93,7 @@ nearRule g n =
 
 -- frames banked below 4; a finished scan has near length and partial count 0
 unfoldable pub verdictRule : Near → Verdict → Bool
-verdictRule n v = both (ltb (v .banked) 4) (either (not (finished v)) (idle n))
+verdictRule n v = both (ltb (v .banked) coarseMinFrames) (either (not (finished v)) (idle n))
 
 unfoldable pub keepsRules : Scan → Bool
 keepsRules s =

@@ -2,6 +2,23 @@
 // One far history, one near frame, one verdict: each is a struct of its own.
 use units::Samples;
 
+// The Rust's constants, by its names. specs/Bins.antt and specs/Scoring.antt say what each is for.
+pub const COARSE_FRAME_MS: u32 = 256;
+
+pub const COARSE_MIN_FRAMES: u32 = 4;
+
+pub const COARSE_CONFIDENT_CORR: f64 = 0.25;
+
+pub const COARSE_SIDELOBE_RATIO: f64 = 1.5;
+
+pub const COARSE_PEAK_GUARD_MS: u32 = 30;
+
+pub const COARSE_CEILING_GUARD_MS: u32 = 8;
+
+pub const COARSE_GIVE_UP_FRAMES: u32 = 64;
+
+pub const COARSE_TAIL_DEFICIT_DEN: u64 = 4;
+
 // What follows from the rate and the ceiling. Span, frame and guards are in bins.
 pub struct Geometry {
     pub rate: u32,

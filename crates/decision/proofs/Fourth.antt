@@ -12,7 +12,7 @@ use Rattle.floats.specs.Functions.{narrow}
 use Rattle.folds.specs.Sums.{table, zeros, at}
 use Rattle.folds.proofs.Laws.{length-table}
 use Rattle.coarse.specs.Bins.{lags}
-use Rattle.coarse.specs.Scoring.{quarter, averagesOf, decision, verdictBy, Ruling, ruling}
+use Rattle.coarse.specs.Scoring.{oneFourth, averagesOf, decision, verdictBy, Ruling, ruling}
 use Rattle.coarse.specs.declared.Geometry.{Geometry}
 use Rattle.coarse.specs.declared.Verdict.{Verdict}
 use Rattle.coarse.specs.declared.Frame.{Frame}
@@ -32,7 +32,7 @@ module _ (g : Geometry) (v : Verdict) (peak : Float) (sums : List Float) where
   banks p verdict h e f = rw (f, e) (sym (pick-true _ _ _ (lt-ltb (v .banked + 1) 4 h)))
 
   pub decides : (averages cleared : List Float) (answer : Frame) (verdict : Verdict) → 4 ≤ v .banked + 1 → length sums ≡ lags g
-      → averages ≡ table (λ k. mul binary64 (at sums k) quarter) (length sums) → answer ≡ decision g averages → cleared ≡ zeros (length averages)
+      → averages ≡ table (λ k. mul binary64 (at sums k) oneFourth) (length sums) → answer ≡ decision g averages → cleared ≡ zeros (length averages)
       → verdict ≡ verdictBy v peak answer 0 → outcome answer verdict cleared ≡ ruling g v peak sums
   unfolding ruling averagesOf
   decides averages cleared answer verdict h l a d z f =

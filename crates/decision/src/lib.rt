@@ -12,7 +12,7 @@ ghost use lib.Ieee.{binary64, mul};
 ghost use Rattle.folds.specs.Sums.{table, at};
 ghost use Rattle.coarse.specs.Bins.{lags};
 ghost use Rattle.coarse.specs.Scoring;
-ghost use Rattle.coarse.specs.Scoring.{quarter, atCeiling, rivalWith, rivalOf, crowdedBy, foundBy, beyondBy, exhaustedBy, verdictBy, ruling};
+ghost use Rattle.coarse.specs.Scoring.{oneFourth, atCeiling, rivalWith, rivalOf, crowdedBy, foundBy, beyondBy, exhaustedBy, verdictBy, ruling};
 ghost use Rattle.decision.specs.Deciding.{ruled, Small};
 
 // The answer of a frame that counts, and the verdict after it.
@@ -23,13 +23,16 @@ pub struct Ruled {
 
 // ---- 7. on the fourth
 
+// An average is a fourth of the sum.
+const ONE_FOURTH: f64 = 0.25;
+
 // The sums times 0.25.
 fn average(sums: &mut [f64])
-    ensures { λ _. ⌜ now (sums .exit) ≡ table (λ k. mul binary64 (at (now (sums .entry)) k) quarter) (length (now (sums .entry))) ⌝ }
+    ensures { λ _. ⌜ now (sums .exit) ≡ table (λ k. mul binary64 (at (now (sums .entry)) k) oneFourth) (length (now (sums .entry))) ⌝ }
 {
     let mut k = 0;
     while k < sums.len() {
-        sums[k] = sums[k] * 0.25;
+        sums[k] = sums[k] * ONE_FOURTH;
         k += 1;
     }
 }
@@ -73,7 +76,7 @@ fn crowded(rival: f64, peak: f64) -> bool
     ensures { λ r. ⌜ r ≡ crowdedBy rival peak ⌝ }
 {
     if 0.0 < rival {
-        return peak < 1.5 * rival;
+        return peak < coarse::COARSE_SIDELOBE_RATIO * rival;
     }
     false
 }
@@ -84,7 +87,7 @@ fn decide(g: Geometry, averages: &[f64]) -> Frame
     ensures { λ r. ⌜ r ≡ Scoring.decision g (now (averages .entry)) ⌝ }
 {
     let peak = folds::search_down(averages);
-    if peak.value < 0.25 {
+    if peak.value < coarse::COARSE_CONFIDENT_CORR {
         return Frame::Weak;
     }
     let delay = Bins(answers::saturating_sub(g.span, peak.at));
@@ -145,7 +148,7 @@ fn exhausted_by(frames: u32, found: Found, before: bool) -> bool
     if before {
         return true;
     }
-    if frames < 64 {
+    if frames < coarse::COARSE_GIVE_UP_FRAMES {
         return false;
     }
     match found {
@@ -176,7 +179,7 @@ pub fn rule(g: Geometry, v: Verdict, peak: f64, sums: &mut [f64]) -> Ruled
     ensures { λ r. ⌜ ruled r (now (sums .exit)) ≡ ruling g v peak (now (sums .entry)) ⌝ }
 {
     let banked = v.banked + 1;
-    if banked < 4 {
+    if banked < coarse::COARSE_MIN_FRAMES {
         let answer = Frame::Banked(floats::narrowed(peak));
         return Ruled {
             answer,

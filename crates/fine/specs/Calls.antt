@@ -89,7 +89,7 @@ windowLen s = samplesReported (stateRefusal s) (samples (s .lengths .frame + spa
 unfoldable pub maxDelay : Fine → SamplesReport
 maxDelay s = samplesReported (stateRefusal s) (samples (spanOf s))
 
--- how far back from the near frame's end the far window starts
+-- how far back from the near frame's start the far window starts (the Rust's comment says end; its acquirer takes it from the start)
 unfoldable pub windowBackOff : Fine → SamplesReport
 windowBackOff s = samplesReported (stateRefusal s) (samples (s .origin .0 + spanOf s))
 

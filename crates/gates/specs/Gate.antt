@@ -68,15 +68,19 @@ pushedNear s near x =
 
 -- ---- the gate: a near frame and its far window, `head` and `tail` samples of which are missing
 
+-- at most this part of the frame may be missing at the window's end (TAIL_DEFICIT_LIMIT_DEN): a host that runs one block ahead always misses a little
+abbrev pub tailDeficitPart : ℕ
+tailDeficitPart = 4
+
 -- a window with any missing head, or missing tail above frame / 4, is skipped
 unfoldable pub skips : Fine → ℕ → ℕ → Bool
-skips s head tail = either (ltb 0 head) (ltb (s .lengths .frame / 4) tail)
+skips s head tail = either (ltb 0 head) (ltb (s .lengths .frame / tailDeficitPart) tail)
 
 -- the f64 sum of squares in order
 unfoldable pub energyOf : List Float → Float
 energyOf xs = upto (λ i. square (at xs i)) (length xs)
 
--- 1e-8
+-- 1e-8 (FRAME_ENERGY_FLOOR): silence carries no delay, and would only dilute the frames that do
 abbrev pub energyFloor : Float
 energyFloor = ofBits binary64 0x3e45798ee2308c3a
 

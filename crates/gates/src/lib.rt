@@ -11,6 +11,12 @@ use fine::Fine;
 use fine::Frames;
 use fine::Lengths;
 
+// Less energy than this on either side is silence.
+const FRAME_ENERGY_FLOOR: f64 = 1e-8;
+
+// At most this part of the frame may be missing at the far window's end.
+const TAIL_DEFICIT_LIMIT_DEN: u64 = 4;
+
 // What a gate makes of a frame and its far window.
 pub enum Passage {
     Skipped,
@@ -167,7 +173,7 @@ fn skips(fine: Fine, missing_head: u64, missing_tail: u64) -> bool
     if missing_head > 0 {
         return true;
     }
-    missing_tail > lengths.frame / 4
+    missing_tail > lengths.frame / TAIL_DEFICIT_LIMIT_DEN
 }
 
 // The sum of squares, in order.
@@ -187,10 +193,10 @@ fn energy(xs: &[f32]) -> f64
 fn silent(near: &[f32], far: &[f32]) -> bool
     ensures { λ r. ⌜ r ≡ Gate.silent (now (near .entry)) (now (far .entry)) ⌝ }
 {
-    if energy(near) < 1e-8 {
+    if energy(near) < FRAME_ENERGY_FLOOR {
         return true;
     }
-    energy(far) < 1e-8
+    energy(far) < FRAME_ENERGY_FLOOR
 }
 
 fn judge(fine: Fine, near: &[f32], far: &[f32], missing_head: u64, missing_tail: u64) -> Passage

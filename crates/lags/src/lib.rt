@@ -15,7 +15,7 @@ use floats::square_root;
 use folds::prefixes;
 use folds::sum;
 
-// At or below it a segment is flat.
+// At or below it a segment is flat (COARSE_VARIANCE_FLOOR).
 pub const ENERGY_FLOOR: f64 = 1e-12;
 
 // ---- the near frame

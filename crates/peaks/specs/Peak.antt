@@ -43,7 +43,7 @@ meanOf span h = div binary64 (h .total) (whole (span + 1))
 unfoldable pub ratioOf : Peak → Float → Float
 ratioOf peak mean = pick (lt zero64 mean) (div binary64 (peak .value) mean) zero64
 
--- 10
+-- 10 (CONFIDENCE_THRESHOLD). High on purpose: to miss a lock costs a host nothing that it had, to lock onto noise breaks a canceller that would work.
 abbrev pub threshold : Float
 threshold = ofBits binary64 0x4024000000000000
 
@@ -51,9 +51,13 @@ threshold = ofBits binary64 0x4024000000000000
 unfoldable pub weak : Peak → Float → Bool
 weak peak mean = either (le mean zero64) (lt (peak .value) (mul binary64 threshold mean))
 
+-- How far the delay is backed off from the peak (LOCK_MARGIN_SAMPLES): an echo path rises into its peak over some samples.
+abbrev pub lockMargin : ℕ
+lockMargin = 16
+
 -- delay = origin + span - k - 16, never under 0
 abbrev pub delayOf : Samples → ℕ → ℕ → Samples
-delayOf origin span k = samples (origin .0 + span - k - 16)
+delayOf origin span k = samples (origin .0 + span - k - lockMargin)
 
 abbrev pub lockOf : Fine → ℕ → Float → Lock
 lockOf s k ratio = record { delay = delayOf (s .origin) (spanOf s) k; «peak_at» = k; ratio = ratio }

@@ -15,6 +15,9 @@ use fine::Scans;
 use folds::Peak;
 use units::Samples;
 
+// So many times the mean a peak must reach.
+const CONFIDENCE_THRESHOLD: f64 = 10.0;
+
 // A candidate: its delay, the peak's position in the correlation, and its ratio to the mean.
 pub struct Lock {
     pub delay: Samples,
@@ -43,7 +46,7 @@ pub struct Heights {
 
 impl Lock {
     // How many samples a delay is backed off from the peak, which a path rises into.
-    pub const MARGIN: u64 = 16;
+    pub const MARGIN_SAMPLES: u64 = 16;
 }
 
 // The peak found so far, and the height met next, at k. Only a greater one takes its place.
@@ -91,7 +94,7 @@ fn weak(peak: Peak, mean: f64) -> bool
     if mean <= 0.0 {
         return true;
     }
-    peak.value < 10.0 * mean
+    peak.value < CONFIDENCE_THRESHOLD * mean
 }
 
 fn peak_refusal(fine: Fine, correlation: &[f32]) -> u8
@@ -139,7 +142,7 @@ fn lock_at(fine: Fine, peak_at: u64, ratio: f64) -> Lock
     let origin = fine.origin;
     let to_peak = origin.0 + lengths.span as u64 - peak_at;
     Lock {
-        delay: Samples(answers::saturating_sub(to_peak, Lock::MARGIN)),
+        delay: Samples(answers::saturating_sub(to_peak, Lock::MARGIN_SAMPLES)),
         peak_at,
         ratio,
     }

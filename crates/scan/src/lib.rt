@@ -13,7 +13,7 @@ ghost use mathlib.Core.Path.{_≡_};
 ghost use Rattle.coarse.specs.Bins.{fullSlack};
 ghost use Rattle.coarse.specs.Calls.{made, wasReset, rearmed, discarded};
 
-// How many bins the far envelope keeps beyond the window.
+// How many bins the far envelope keeps beyond the window (COARSE_RING_SLACK_BINS).
 pub const SLACK: u32 = 4000;
 
 // A new scan. Refused, it is the one for rate 8,000 and ceiling 1.

@@ -54,9 +54,9 @@ pub fn geometry_of(rate: u32, ceiling: u32) -> Geometry
         decimation,
         bin_rate,
         span: in_bins(bin_rate, ceiling),
-        frame: in_bins(bin_rate, 256),
-        ceiling_guard: in_bins(bin_rate, 8),
-        peak_guard: in_bins(bin_rate, 30),
+        frame: in_bins(bin_rate, coarse::COARSE_FRAME_MS),
+        ceiling_guard: in_bins(bin_rate, coarse::COARSE_CEILING_GUARD_MS),
+        peak_guard: in_bins(bin_rate, coarse::COARSE_PEAK_GUARD_MS),
     }
 }
 
@@ -185,7 +185,7 @@ pub fn idle(n: Near) -> bool
 fn verdict_rule(n: Near, v: Verdict) -> bool
     ensures { λ r. ⌜ r ≡ verdictRule n v ⌝ }
 {
-    if v.banked >= 4 {
+    if v.banked >= coarse::COARSE_MIN_FRAMES {
         return false;
     }
     if finished(v) {

@@ -20,7 +20,7 @@ ghost use Rattle.scoring.specs.Observing.{lent, world, saw, ended, Fit, 
 pub mod refusal;
 pub mod window;
 
-// The window's mean at or below it is silence.
+// The window's mean at or below it is silence (COARSE_FAR_ACTIVE_FLOOR).
 const ACTIVE_FLOOR: f64 = 3.1622777e-4;
 
 // ---- 3. and 4.

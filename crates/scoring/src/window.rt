@@ -29,7 +29,7 @@ pub fn ahead(g: Geometry, next: u64, first: u64) -> bool
     requires { ⌜ Bounds g × (first < limit) ⌝ }
     ensures { λ r. ⌜ r ≡ Scoring.ahead g next first ⌝ }
 {
-    g.frame / 4 < answers::saturating_sub(first + g.frame, next)
+    g.frame / coarse::COARSE_TAIL_DEFICIT_DEN < answers::saturating_sub(first + g.frame, next)
 }
 
 // Bin j, which stands in this slot; an unwritten one reads as 0.

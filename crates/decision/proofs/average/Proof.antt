@@ -5,7 +5,7 @@ use lib.ListN.{length}
 use lib.Ieee.{Float, binary64, mul}
 use Rattle.folds.specs.Rewriting.{Rewritten}
 use Rattle.folds.proofs.Rewriting.{untouched, one-more, rewritten}
-use Rattle.coarse.specs.Scoring.{quarter}
+use Rattle.coarse.specs.Scoring.{oneFourth}
 use borrow.Author.Needs.{needs}
 use native.Mathlib.Omega.{arith}
 use Rattle.decision.proofs.average.Statement.{statement}
@@ -13,7 +13,7 @@ use Rattle.decision.proofs.average.Tie as tie
 
 -- a sum as an average, whatever its lag
 abbrev averaged : ℕ → Float → Float
-averaged k x = mul binary64 x quarter
+averaged k x = mul binary64 x oneFourth
 
 abbrev Inv-loop : tie.InvT-loop
 Inv-loop sums₀ k₀ sums k = (k ≤ length sums₀) × Rewritten averaged sums₀ k sums
