@@ -13,12 +13,12 @@ import sys
 ROOT = pathlib.Path(__file__).resolve().parent.parent
 CRATES = ROOT / "crates"
 # The crates whose calls a host makes.
-CALLED = ["floats", "ring", "tracker", "scan", "blocks", "runs", "scoring", "fine", "gates", "peaks", "lines", "recording", "replay", "trimolaveg"]
+CALLED = ["floats", "ring", "tracker", "scan_calls", "scan_push", "scan_runs", "scan_score", "fine", "fine_gate", "fine_peak", "log_lines", "recording", "replay", "trimolaveg"]
 # Public only for the crates above them; a host calls none of these. Each is pinned by an equation in its contract all the same.
 INNER = {
-    "scan": ["clearing.rt", "parts.rt", "restart.rt", "rules.rt"],
-    "blocks": ["far.rt", "level.rt", "near.rt"],
-    "scoring": ["refusal.rt", "window.rt"],
+    "scan_calls": ["clearing.rt", "parts.rt", "restart.rt", "rules.rt"],
+    "scan_push": ["far.rt", "level.rt", "near.rt"],
+    "scan_score": ["refusal.rt", "window.rt"],
     "fine": ["of", "with_frames"],
     "replay": ["events.rt", "starting.rt", "words.rt"],
 }
@@ -95,13 +95,13 @@ def public_calls(crate):
 
 def plain(call, path):
     """A call's name in its theorems: for the C face without the prefix."""
-    part = path.stem.removesuffix("_calls")
+    part = path.stem.removesuffix("_face")
     return call.removeprefix("tmv_").removeprefix(part + "_").replace("_", "-")
 
 
 def theorems(crate, call, path):
     """The theorems about a call: in Determined, or, for the C face, in the module of the call's part. A theorem is about the call with the longest name that begins it."""
-    part = path.stem.removesuffix("_calls")
+    part = path.stem.removesuffix("_face")
     file = CRATES / crate / "proofs" / ("Determined.antt" if part == path.stem else part.capitalize() + "Determined.antt")
     known = re.findall(r"^pub ([\w-]+-once) :", file.read_text(), re.M) if file.exists() else []
     names = [plain(other, there) for other, there in public_calls(crate) if there == path]

@@ -1,7 +1,7 @@
 // Where the text of a log goes: it is written, or held against a stored log.
 use libc::STDERR_FILENO;
-use lines::Line;
-use lines::Written;
+use log_lines::Line;
+use log_lines::Written;
 ghost use mathlib.Core.Path.{_≡_};
 ghost use Prim.Native.Nat.{_+_, _-_, _≤_, _<_};
 ghost use lib.ListN.{length};
@@ -162,7 +162,7 @@ pub fn log(sink: Sink, out: &mut [u8], line: Line) -> Sink
 {
     let at = sink.at;
     let most = out.len() - at;
-    match lines::write_line(line, &mut out[at..]) {
+    match log_lines::write_line(line, &mut out[at..]) {
         Written::NoRoom => failed(sink),
         Written::Bytes(n) => {
             if n < most {

@@ -5,9 +5,9 @@ use fine::Changed;
 use fine::Fine;
 use fine::Frames;
 use fine::Scans;
-use gates::GateAnswer;
-use gates::RescanAnswer;
-use gates::Taking;
+use fine_gate::GateAnswer;
+use fine_gate::RescanAnswer;
+use fine_gate::Taking;
 use units::Samples;
 use vectors::buffers;
 
@@ -101,7 +101,7 @@ fn taking_number(answer: Taking) -> u64 {
 }
 
 fn push_near(fine: Fine, frame: &mut [f32], sample: f32) -> Done {
-    let took = gates::push_near(fine, frame, sample);
+    let took = fine_gate::push_near(fine, frame, sample);
     let next = took.fine;
     let answer = took.answer;
     Done {
@@ -160,7 +160,7 @@ fn rescan_number(answer: RescanAnswer) -> u64 {
 }
 
 fn gate(fine: Fine, frame: &[f32], retained: &mut [f32], window: &[f32], call: Call) -> Done {
-    let gated = gates::gate(
+    let gated = fine_gate::gate(
         fine,
         frame,
         retained,
@@ -186,7 +186,7 @@ fn gate_part(fine: Fine, near: &[f32], retained: &mut [f32], far: &[f32], call: 
 fn rescan(fine: Fine, retained: &[f32], far: &[f32], call: Call) -> Done {
     let frame = buffers::first(retained, fine.lengths.frame);
     let window = buffers::first(far, fine.lengths.transform);
-    let scanned = gates::rescan(fine, frame, window, call.count as u64, call.number);
+    let scanned = fine_gate::rescan(fine, frame, window, call.count as u64, call.number);
     let next = scanned.fine;
     let answer = scanned.answer;
     Done {

@@ -6,7 +6,7 @@ use fine::Frames;
 use fine::Lengths;
 use fine::Position;
 use fine::Scans;
-use peaks::Lock;
+use fine_peak::Lock;
 use vectors::buffers;
 use vectors::patterns;
 ghost use Prim.Native.Nat.{_≤_};

@@ -3,8 +3,8 @@ use crate::calls;
 use crate::calls::Done;
 use crate::records::Call;
 use fine::Fine;
-use peaks::Lock;
-use peaks::PeakAnswer;
+use fine_peak::Lock;
+use fine_peak::PeakAnswer;
 use units::Samples;
 use vectors::buffers;
 
@@ -31,7 +31,7 @@ fn no_lock(fine: Fine, answer: u64) -> Searched {
 }
 
 fn search(fine: Fine, array: &[f32], answer: u64) -> Searched {
-    let found = peaks::peak(fine, array);
+    let found = fine_peak::peak(fine, array);
     let next = found.fine;
     let said = found.answer;
     match said {

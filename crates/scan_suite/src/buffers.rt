@@ -1,5 +1,5 @@
 // The buffers that a scan is lent.
-use scan::rules;
+use scan_calls::rules;
 
 pub type Envelope = [f32; 8519];
 
@@ -55,7 +55,7 @@ pub fn lengths_of(rate: u32, ceiling: u32) -> Lengths {
     let g = rules::geometry_of(rate, ceiling);
     let window = g.frame + g.span;
     Lengths {
-        envelope: rules::envelope_len(scan::SLACK, g),
+        envelope: rules::envelope_len(scan_calls::SLACK, g),
         frame: g.frame,
         window,
         sums: window + 1,

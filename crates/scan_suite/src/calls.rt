@@ -8,17 +8,17 @@ use crate::records::Call;
 use crate::records::Done;
 use crate::records::OTHER;
 use crate::records::Record;
-use coarse::Change;
-use coarse::Changed;
-use coarse::Found;
-use coarse::Frame;
-use coarse::Region;
-use coarse::Scan;
-use coarse::Scored;
-use coarse::Scoring;
-use coarse::Taking;
-use coarse::Took;
-use coarse::Verdict;
+use scan::Change;
+use scan::Changed;
+use scan::Found;
+use scan::Frame;
+use scan::Region;
+use scan::Scan;
+use scan::Scored;
+use scan::Scoring;
+use scan::Taking;
+use scan::Took;
+use scan::Verdict;
 use vectors::buffers::at_most;
 ghost use mathlib.Core.Path.{_≡_};
 ghost use lib.ListN.{length};
@@ -41,7 +41,7 @@ fn samples49152() -> [f32; 49152]
 fn push_filled(scan: Scan, envelope: &mut [f32], samples: &mut [f32], call: Call) -> Changed {
     let signal = call.signal;
     signal.fill(&mut *samples, call.place);
-    blocks::push_far(scan, envelope, samples)
+    scan_push::push_far(scan, envelope, samples)
 }
 
 fn push_counted(scan: Scan, envelope: &mut [f32], samples: &mut [f32], call: Call) -> Changed {
@@ -55,7 +55,7 @@ fn push_far(scan: Scan, envelope: &mut [f32], record: &Record) -> Changed {
 }
 
 fn new_scan(envelope: &mut [f32], sums: &mut [f64], record: &Record) -> Changed {
-    scan::new(
+    scan_calls::new(
         vectors::number32(record, 4),
         vectors::number32(record, 8),
         envelope,
@@ -73,12 +73,12 @@ fn change(scan: Scan, envelope: &mut [f32], sums: &mut [f64], record: &Record) -
         return push_far(scan, envelope, record);
     }
     if kind == 5 {
-        return scan::rearm(scan, sums);
+        return scan_calls::rearm(scan, sums);
     }
     if kind == 6 {
-        return scan::discard_near(scan, sums);
+        return scan_calls::discard_near(scan, sums);
     }
-    scan::reset(scan, envelope, sums)
+    scan_calls::reset(scan, envelope, sums)
 }
 
 // The lengths that the scan has, or that the one to be made will have.
@@ -144,7 +144,7 @@ fn push_run(scan: Scan, levels: &mut [f32], call: Call) -> Took {
         let before = took.scan;
         let sample = signal.at(std::num::wrapping_add_u64(call.place, i));
         let index = std::num::wrapping_add_u64(call.number, i);
-        took = blocks::push_near(before, &mut *levels, sample, index);
+        took = scan_push::push_near(before, &mut *levels, sample, index);
         i += 1;
     }
     took
@@ -236,7 +236,7 @@ fn score_lent(
     let squares_of = at_most(lengths.sums, squares.len());
     let scored = at_most(lengths.lags, scores.len());
     let summed = at_most(lengths.lags, sums.len());
-    scoring::observe(
+    scan_score::observe(
         scan,
         &envelope[..kept],
         &levels[..frame],

@@ -3,11 +3,11 @@ use crate::buffers::Envelope;
 use crate::buffers::Lags;
 use crate::buffers::Levels;
 use crate::records::Call;
-use coarse::Far;
-use coarse::Near;
-use coarse::Scan;
-use coarse::Verdict;
-use scan::parts;
+use scan::Far;
+use scan::Near;
+use scan::Scan;
+use scan::Verdict;
+use scan_calls::parts;
 
 fn low32(n: u64) -> u32 {
     (n % 0x1_0000_0000) as u32

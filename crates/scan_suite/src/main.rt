@@ -8,8 +8,8 @@ mod compare; // the state, the reports and the buffers after a call
 mod whole; // buffers that stand whole in a file
 
 use buffers::Buffers;
-use coarse::Scan;
 use records::Record;
+use scan::Scan;
 use vectors::Tally;
 
 struct Run {
@@ -37,7 +37,7 @@ fn try_call(full: i32, run: Run, record: &Record) -> Run {
 // A file of at most 65,535 calls.
 fn try_calls(calls: i32, full: i32, record: &mut Record) -> Tally {
     let mut run = Run {
-        scan: scan::parts::new_scan(8000, 1),
+        scan: scan_calls::parts::new_scan(8000, 1),
         buffers: buffers::all_blank(),
         tally: Tally::new(),
     };

@@ -1,6 +1,6 @@
 // A record of the file: the call, and what its answer is to be.
 use crate::buffers::Buffers;
-use coarse::Scan;
+use scan::Scan;
 use vectors::signals::Signal;
 
 pub type Record = [u8; 160];

@@ -2,7 +2,7 @@
 use crate::buffers;
 use crate::buffers::Buffers;
 use crate::records::Record;
-use coarse::Scan;
+use scan::Scan;
 
 pub fn both(a: bool, b: bool) -> bool {
     if a { b } else { false }

@@ -6,31 +6,31 @@ use mathlib.Core.List.{List}
 use lib.ListN.{set}
 use lib.Ieee.{Float, binary32, binary64, toBits}
 use Rattle.answers.specs.Pick.{pick}
-use Rattle.coarse.specs.Scoring.{frameNumber}
-use Rattle.coarse.specs.declared.Region.{Region}
-use Rattle.coarse.specs.declared.Found.{Found}
-use Rattle.coarse.specs.declared.Found.the-variants.{Nothing, At}
-use Rattle.coarse.specs.declared.Frame.{Frame}
-use Rattle.coarse.specs.declared.Frame.the-variants as frame
-use Rattle.coarse.specs.declared.Change.{Change}
-use Rattle.coarse.specs.declared.Change.the-variants as change
-use Rattle.coarse.specs.declared.Changed.{Changed}
-use Rattle.coarse.specs.declared.Taking.{Taking}
-use Rattle.coarse.specs.declared.Taking.the-variants as taking
-use Rattle.coarse.specs.declared.Took.{Took}
-use Rattle.coarse.specs.declared.Scoring.{Scoring}
-use Rattle.coarse.specs.declared.Scoring.the-variants as scoring
-use Rattle.coarse.specs.declared.Scored.{Scored}
-use Rattle.coarse.specs.declared.RegionReport.{RegionReport}
-use Rattle.coarse.specs.declared.RegionReport.the-variants as region
-use Rattle.coarse.specs.declared.FlagReport.{FlagReport}
-use Rattle.coarse.specs.declared.FlagReport.the-variants as flag
-use Rattle.coarse.specs.declared.CountReport.{CountReport}
-use Rattle.coarse.specs.declared.CountReport.the-variants as count
-use Rattle.coarse.specs.declared.LevelReport.{LevelReport}
-use Rattle.coarse.specs.declared.LevelReport.the-variants as level
-use Rattle.coarse.specs.declared.SamplesReport.{SamplesReport}
-use Rattle.coarse.specs.declared.SamplesReport.the-variants as samples
+use Rattle.scan.specs.Scoring.{frameNumber}
+use Rattle.scan.specs.declared.Region.{Region}
+use Rattle.scan.specs.declared.Found.{Found}
+use Rattle.scan.specs.declared.Found.the-variants.{Nothing, At}
+use Rattle.scan.specs.declared.Frame.{Frame}
+use Rattle.scan.specs.declared.Frame.the-variants as frame
+use Rattle.scan.specs.declared.Change.{Change}
+use Rattle.scan.specs.declared.Change.the-variants as change
+use Rattle.scan.specs.declared.Changed.{Changed}
+use Rattle.scan.specs.declared.Taking.{Taking}
+use Rattle.scan.specs.declared.Taking.the-variants as taking
+use Rattle.scan.specs.declared.Took.{Took}
+use Rattle.scan.specs.declared.Scoring.{Scoring}
+use Rattle.scan.specs.declared.Scoring.the-variants as scoring
+use Rattle.scan.specs.declared.Scored.{Scored}
+use Rattle.scan.specs.declared.RegionReport.{RegionReport}
+use Rattle.scan.specs.declared.RegionReport.the-variants as region
+use Rattle.scan.specs.declared.FlagReport.{FlagReport}
+use Rattle.scan.specs.declared.FlagReport.the-variants as flag
+use Rattle.scan.specs.declared.CountReport.{CountReport}
+use Rattle.scan.specs.declared.CountReport.the-variants as count
+use Rattle.scan.specs.declared.LevelReport.{LevelReport}
+use Rattle.scan.specs.declared.LevelReport.the-variants as level
+use Rattle.scan.specs.declared.SamplesReport.{SamplesReport}
+use Rattle.scan.specs.declared.SamplesReport.the-variants as samples
 use Rattle.scan_words.specs.Layout.{answered}
 
 -- ---- numbers

@@ -6,9 +6,9 @@ use lib.Dec.{T}
 use lib.ListN.{length}
 use lib.Ieee as Ieee
 use lib.Ieee.{binary32, binary64}
-use Rattle.coarse.specs.declared.Found.{Found}
-use Rattle.coarse.specs.declared.Found.the-variants.{Nothing, At}
-use Rattle.coarse.specs.declared.Scan.{Scan}
+use Rattle.scan.specs.declared.Found.{Found}
+use Rattle.scan.specs.declared.Found.the-variants.{Nothing, At}
+use Rattle.scan.specs.declared.Scan.{Scan}
 use Rattle.scan_words.specs.Layout.{loaded, stored}
 
 -- a number of 64 bits may be any: a word holds it

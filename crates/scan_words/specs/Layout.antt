@@ -10,13 +10,13 @@ use lib.Ieee.{binary32, binary64, ofBits}
 use Rattle.answers.specs.Pick.{pick, both}
 use Rattle.words.specs.Words.{word, half, allBelow, patternOf, flagOf}
 use Rattle.units.specs.Units.{samples}
-use Rattle.coarse.specs.declared.Geometry.{Geometry}
-use Rattle.coarse.specs.declared.Far.{Far}
-use Rattle.coarse.specs.declared.Near.{Near}
-use Rattle.coarse.specs.declared.Found.{Found}
-use Rattle.coarse.specs.declared.Found.the-variants.{Nothing, At}
-use Rattle.coarse.specs.declared.Verdict.{Verdict}
-use Rattle.coarse.specs.declared.Scan.{Scan}
+use Rattle.scan.specs.declared.Geometry.{Geometry}
+use Rattle.scan.specs.declared.Far.{Far}
+use Rattle.scan.specs.declared.Near.{Near}
+use Rattle.scan.specs.declared.Found.{Found}
+use Rattle.scan.specs.declared.Found.the-variants.{Nothing, At}
+use Rattle.scan.specs.declared.Verdict.{Verdict}
+use Rattle.scan.specs.declared.Scan.{Scan}
 
 -- ---- loading
 

@@ -1,20 +1,20 @@
 // What a call answers: below 16 its refusal's number, from 16 on the case, in document 01's order; and the values that come with it, which go into a lent list.
-use coarse::Change;
-use coarse::CountReport;
-use coarse::FlagReport;
-use coarse::Found;
-use coarse::Frame;
-use coarse::LevelReport;
-use coarse::Region;
-use coarse::RegionReport;
-use coarse::SamplesReport;
-use coarse::Scoring;
-use coarse::Taking;
+use scan::Change;
+use scan::CountReport;
+use scan::FlagReport;
+use scan::Found;
+use scan::Frame;
+use scan::LevelReport;
+use scan::Region;
+use scan::RegionReport;
+use scan::SamplesReport;
+use scan::Scoring;
+use scan::Taking;
 ghost use mathlib.Core.Path.{_≡_};
 ghost use Prim.Native.Nat.{_+_};
 ghost use lib.ListN.{length};
 ghost use lib.Ieee.{binary32, binary64, toBits};
-ghost use Rattle.coarse.specs.Scoring.{frameNumber};
+ghost use Rattle.scan.specs.Scoring.{frameNumber};
 ghost use Rattle.scan_words.specs.Answers.{changeNumber, takingNumber, scoringNumber, foundNumber, regionNumber, flagNumber, countNumber, levelNumber, samplesNumber, placed, frameValuesIn, scoringValues, foundValues, regionValues, countValues, levelValues, samplesValues};
 
 pub fn change_number(answer: Change) -> u32

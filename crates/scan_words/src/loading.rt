@@ -1,11 +1,11 @@
 // A scan's state, from its words.
-use coarse::Far;
-use coarse::Found;
-use coarse::Geometry;
-use coarse::Near;
-use coarse::Region;
-use coarse::Scan;
-use coarse::Verdict;
+use scan::Far;
+use scan::Found;
+use scan::Geometry;
+use scan::Near;
+use scan::Region;
+use scan::Scan;
+use scan::Verdict;
 use units::Samples;
 ghost use mathlib.Core.Path.{_≡_};
 ghost use lib.ListN.{length};

@@ -1,10 +1,10 @@
 // A scan's state, into its words.
-use coarse::Far;
-use coarse::Found;
-use coarse::Geometry;
-use coarse::Near;
-use coarse::Scan;
-use coarse::Verdict;
+use scan::Far;
+use scan::Found;
+use scan::Geometry;
+use scan::Near;
+use scan::Scan;
+use scan::Verdict;
 ghost use mathlib.Core.Path.{_≡_};
 ghost use lib.ListN.{length};
 ghost use Rattle.scan_words.specs.Layout.{storedGeometry, storedFar, storedNear, storedFound, storedVerdict, stored, answered};

@@ -4,9 +4,9 @@ use mathlib.Core.Path.{_≡_, ap, _∙_}
 use mathlib.Core.List.{List}
 use lib.ListN.{set}
 use lib.Ieee.{Float}
-use Rattle.coarse.specs.declared.Scan.{Scan}
-use Rattle.runs.specs.Runs.{ran}
-use Rattle.runs.specs.declared.Ran.{Ran}
+use Rattle.scan.specs.declared.Scan.{Scan}
+use Rattle.scan_runs.specs.Runs.{ran}
+use Rattle.scan_runs.specs.declared.Ran.{Ran}
 use Rattle.trimolaveg.specs.ScanFace.{keptRun, ranWords, ranValues}
 
 module _ (s t : Scan) (levels samples : List Float) (first : ℕ) (l : s ≡ t) where

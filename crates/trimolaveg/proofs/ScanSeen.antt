@@ -2,12 +2,12 @@
 use Prim.Native.Nat.{ℕ}
 use mathlib.Core.Path.{_≡_, ap, _∙_}
 use mathlib.Core.List.{List}
-use Rattle.coarse.specs.Bins.{fullSlack}
-use Rattle.coarse.specs.State.{Buffers}
-use Rattle.coarse.specs.Calls.{Observation, observed}
-use Rattle.coarse.specs.declared.Scan.{Scan}
-use Rattle.coarse.specs.declared.Scored.{Scored}
-use Rattle.scoring.specs.Observing.{world, saw}
+use Rattle.scan.specs.Bins.{fullSlack}
+use Rattle.scan.specs.State.{Buffers}
+use Rattle.scan.specs.Calls.{Observation, observed}
+use Rattle.scan.specs.declared.Scan.{Scan}
+use Rattle.scan.specs.declared.Scored.{Scored}
+use Rattle.scan_score.specs.Observing.{world, saw}
 use Rattle.scan_words.specs.Layout.{answered}
 use Rattle.scan_words.specs.Answers.{scoringNumber, scoringValues, scoredWords}
 

@@ -20,14 +20,14 @@ use Rattle.fine.specs.declared.RatioReport.{RatioReport}
 use Rattle.fine.specs.declared.RatioReport.the-variants as ratioReport
 use Rattle.fine.specs.declared.PositionReport.{PositionReport}
 use Rattle.fine.specs.declared.PositionReport.the-variants as positionReport
-use Rattle.gates.specs.declared.Taking.{Taking}
-use Rattle.gates.specs.declared.Taking.the-variants as taking
-use Rattle.gates.specs.declared.GateAnswer.{GateAnswer}
-use Rattle.gates.specs.declared.GateAnswer.the-variants as gate
-use Rattle.gates.specs.declared.RescanAnswer.{RescanAnswer}
-use Rattle.gates.specs.declared.RescanAnswer.the-variants as rescan
-use Rattle.peaks.specs.declared.PeakAnswer.{PeakAnswer}
-use Rattle.peaks.specs.declared.PeakAnswer.the-variants as peak
+use Rattle.fine_gate.specs.declared.Taking.{Taking}
+use Rattle.fine_gate.specs.declared.Taking.the-variants as taking
+use Rattle.fine_gate.specs.declared.GateAnswer.{GateAnswer}
+use Rattle.fine_gate.specs.declared.GateAnswer.the-variants as gate
+use Rattle.fine_gate.specs.declared.RescanAnswer.{RescanAnswer}
+use Rattle.fine_gate.specs.declared.RescanAnswer.the-variants as rescan
+use Rattle.fine_peak.specs.declared.PeakAnswer.{PeakAnswer}
+use Rattle.fine_peak.specs.declared.PeakAnswer.the-variants as peak
 use Rattle.words.specs.Words.{word, patternOf}
 
 -- ---- lengths of what is lent, by the span; 0 where it is outside the table

@@ -4,8 +4,8 @@ use mathlib.Core.List.{List}
 use lib.Dec.{eqb}
 use lib.ListN.{set}
 use Rattle.answers.specs.Pick.{pick}
-use Rattle.coarse.specs.declared.Scan.{Scan}
-use Rattle.runs.specs.Runs.{Run}
+use Rattle.scan.specs.declared.Scan.{Scan}
+use Rattle.scan_runs.specs.Runs.{Run}
 use Rattle.scan_words.specs.Layout.{stored}
 
 -- where no sample passed nothing is stored

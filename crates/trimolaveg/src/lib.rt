@@ -2,8 +2,8 @@
 // A state is lent as words; the crates scan_words, tracker_words and fine_words say where each field stands.
 // No call has a `requires`. Each answers a refusal's number, or 16 and more: the case of its answer. A refused call writes nothing.
 // A state or a list for values of another length than its layout's is refused with 2 before anything else is judged.
-pub mod fine_calls;
-pub mod float_calls;
-pub mod ring_calls;
-pub mod scan_calls;
-pub mod tracker_calls;
+pub mod fine_face;
+pub mod float_face;
+pub mod ring_face;
+pub mod scan_face;
+pub mod tracker_face;

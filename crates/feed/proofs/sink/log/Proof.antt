@@ -7,7 +7,7 @@ use Rattle.feed.proofs.sink.log.Reads as reads
 use Rattle.feed.proofs.sink.log.Lts as lts
 use Rattle.feed.proofs.sink.failed.Reads as failed-reads
 use Rattle.feed.proofs.sink.until.Reads as until-reads
-use Rattle.lines.proofs.write_line.Reads as write-line-reads
+use Rattle.log_lines.proofs.write_line.Reads as write-line-reads
 
 sub-most : tie.Need-sub-most
 sub-most c = search needs
