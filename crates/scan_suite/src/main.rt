@@ -1,15 +1,14 @@
 // Replays stored calls of the coarse scan against the answers of the unchanged Rust, and writes how many were tried and how many differ.
 // tests/scan/README.md says how the files were made and what a record holds.
-mod records; // a record, and its call
-mod buffers; // the buffers that are lent
 mod calls; // the calls of the scan
-mod made_up; // states that a record makes up
-mod compare; // the state, the reports and the buffers after a call
-mod whole; // buffers that stand whole in a file
 
-use buffers::Buffers;
-use records::Record;
 use scan::Scan;
+use scan_vectors::buffers;
+use scan_vectors::buffers::Buffers;
+use scan_vectors::compare;
+use scan_vectors::records;
+use scan_vectors::records::Record;
+use scan_vectors::whole;
 use vectors::Tally;
 
 struct Run {

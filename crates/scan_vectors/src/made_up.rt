@@ -13,13 +13,6 @@ fn low32(n: u64) -> u32 {
     (n % 0x1_0000_0000) as u32
 }
 
-fn store32(out: &mut [f32], place: u32, bits: u64) {
-    let i = place as usize;
-    if i < out.len() {
-        out[i] = recording::sample(low32(bits));
-    }
-}
-
 fn store64(out: &mut [f64], place: u32, bits: u64) {
     let i = place as usize;
     if i < out.len() {
@@ -83,11 +76,11 @@ pub fn write(envelope: &mut Envelope, levels: &mut Levels, sums: &mut Lags, call
         return;
     }
     if call.kind == 13 {
-        store32(envelope, call.count, call.number);
+        vectors::buffers::store32(envelope, call.count, call.number);
         return;
     }
     if call.kind == 14 {
-        store32(levels, call.count, call.number);
+        vectors::buffers::store32(levels, call.count, call.number);
         return;
     }
     if call.kind == 15 {

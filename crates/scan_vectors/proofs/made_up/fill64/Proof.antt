@@ -1,10 +1,10 @@
--- `scan_suite::made_up::fill64` is safe and ends.
+-- `scan_vectors::made_up::fill64` is safe and ends.
 use Prim.Native.Nat.{_-_}
 use mathlib.Core.Path.{_≡_}
 use lib.ListN.{length}
 use borrow.Author.Needs.{needs}
-use Rattle.scan_suite.proofs.made_up.fill64.Statement.{statement}
-use Rattle.scan_suite.proofs.made_up.fill64.Tie as tie
+use Rattle.scan_vectors.proofs.made_up.fill64.Statement.{statement}
+use Rattle.scan_vectors.proofs.made_up.fill64.Tie as tie
 
 abbrev Inv-loop : tie.InvT-loop
 Inv-loop out₀ bits i₀ out i = length out ≡ length out₀
