@@ -20,6 +20,7 @@ INNER = {
     "scan_push": ["far.rt", "level.rt", "near.rt"],
     "scan_score": ["refusal.rt", "window.rt"],
     "fine": ["of", "with_frames"],
+    "trimolaveg": ["judging.rt"],
     "replay": ["events.rt", "starting.rt", "words.rt"],
 }
 

@@ -18,6 +18,10 @@ use Rattle.scan.specs.declared.Found.the-variants.{Nothing, At}
 use Rattle.scan.specs.declared.Verdict.{Verdict}
 use Rattle.scan.specs.declared.Scan.{Scan}
 
+-- how many words a state has
+abbrev pub scanWords : ℕ
+scanWords = 24
+
 -- ---- loading
 
 -- a rate or a ceiling of 2^32 or more is outside the table, as 0 is
@@ -92,5 +96,5 @@ unfoldable pub stored : List ℕ → Scan → List ℕ
 stored ws s = storedVerdict (storedNear (storedFar (storedGeometry ws (s .geometry)) (s .far)) (s .near)) (s .verdict)
 
 -- numbers below 16 are refusals
-unfoldable pub answered : List ℕ → ℕ → Scan → List ℕ
-answered ws n s = pick (ltb n 16) ws (stored ws s)
+unfoldable pub settled : List ℕ → ℕ → Scan → List ℕ
+settled ws n s = pick (ltb n 16) ws (stored ws s)

@@ -6,6 +6,7 @@ use denote.Triple.Clauses.{AtExit}
 use borrow.Fn.Kinds.{Dens, resT, endedOf}
 use Rattle.answers.proofs.Once.{Determined, once}
 use Rattle.scan.specs.State.{Buffers}
+use Rattle.trimolaveg.specs.ScanFace.{History}
 use Rattle.trimolaveg.proofs.scan_face.tmv_scan_words.Kinds as words-kinds
 use Rattle.trimolaveg.proofs.scan_face.tmv_scan_words.Reads as words-reads
 use Rattle.trimolaveg.proofs.scan_face.tmv_scan_envelope_len.Kinds as envelope-len-kinds
@@ -30,8 +31,6 @@ use Rattle.trimolaveg.proofs.scan_face.tmv_scan_push_far.Kinds as push-
 use Rattle.trimolaveg.proofs.scan_face.tmv_scan_push_far.Reads as push-far-reads
 use Rattle.trimolaveg.proofs.scan_face.tmv_scan_push_near.Kinds as push-near-kinds
 use Rattle.trimolaveg.proofs.scan_face.tmv_scan_push_near.Reads as push-near-reads
-use Rattle.trimolaveg.proofs.scan_face.tmv_scan_push_near_run.Kinds as push-near-run-kinds
-use Rattle.trimolaveg.proofs.scan_face.tmv_scan_push_near_run.Reads as push-near-run-reads
 use Rattle.trimolaveg.proofs.scan_face.tmv_scan_observe.Kinds as observe-kinds
 use Rattle.trimolaveg.proofs.scan_face.tmv_scan_observe.Reads as observe-reads
 use Rattle.trimolaveg.proofs.scan_face.tmv_scan_bin_samples.Kinds as bin-samples-kinds
@@ -79,8 +78,8 @@ pub new-leaves-once : (κs : Lfts 3) (a : Dens κs new-kinds.ps) (v w : resT new
     (now (x .1 .1 .0) ≡ now (y .1 .1 .0))
 new-leaves-once κs a v w x y p q = (
   once (p .1 .0) (q .1 .0),
-  once (p .1 .1 .0) (q .1 .1 .0),
-  once (p .1 .1 .1) (q .1 .1 .1),
+  ap (λ (h : History). h .envelope) (once (p .1 .1) (q .1 .1)),
+  ap (λ (h : History). h .lagSums) (once (p .1 .1) (q .1 .1)),
 )
 
 pub reset-once : Determined 3 reset-kinds.ps reset-kinds.r reset-reads.Post
@@ -93,8 +92,8 @@ pub reset-leaves-once : (κs : Lfts 3) (a : Dens κs reset-kinds.ps) (v w : resT
     (now (x .1 .1 .0) ≡ now (y .1 .1 .0))
 reset-leaves-once κs a v w x y p q = (
   once (p .1 .0) (q .1 .0),
-  once (p .1 .1 .0) (q .1 .1 .0),
-  once (p .1 .1 .1) (q .1 .1 .1),
+  ap (λ (h : History). h .envelope) (once (p .1 .1) (q .1 .1)),
+  ap (λ (h : History). h .lagSums) (once (p .1 .1) (q .1 .1)),
 )
 
 pub rearm-once : Determined 2 rearm-kinds.ps rearm-kinds.r rearm-reads.Post
@@ -143,20 +142,6 @@ pub push-near-leaves-once : (κs : Lfts 2) (a : Dens κs push-near-kinds.ps) (v 
 push-near-leaves-once κs a v w x y p q = (
   once (p .1 .0) (q .1 .0),
   once (p .1 .1) (q .1 .1),
-)
-
-pub push-near-run-once : Determined 4 push-near-run-kinds.ps push-near-run-kinds.r push-near-run-reads.Post
-push-near-run-once κs a v w x y p q = once (p .0) (q .0)
-
-pub push-near-run-leaves-once : (κs : Lfts 4) (a : Dens κs push-near-run-kinds.ps) (v w : resT push-near-run-kinds.r κs .Denot) (x y : AtExit (endedOf 4 push-near-run-kinds.ps push-near-run-kinds.r) κs)
-    → push-near-run-reads.Post κs a v x → push-near-run-reads.Post κs a w y
-    → (now (x .0) ≡ now (y .0)) ×
-    (now (x .1 .0) ≡ now (y .1 .0)) ×
-    (now (x .1 .1 .1 .1 .0) ≡ now (y .1 .1 .1 .1 .0))
-push-near-run-leaves-once κs a v w x y p q = (
-  once (p .1 .0) (q .1 .0),
-  once (p .1 .1 .0) (q .1 .1 .0),
-  once (p .1 .1 .1) (q .1 .1 .1),
 )
 
 pub observe-once : Determined 9 observe-kinds.ps observe-kinds.r observe-reads.Post

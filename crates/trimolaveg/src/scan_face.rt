@@ -1,35 +1,40 @@
-// The coarse scan: a state of 24 words.
-use scan::Scan;
+// The scan's calls. crates/scan_words/specs/Layout.antt says where each field of its state stands.
+use crate::judging;
 use scan_words::answering;
 use scan_words::loading;
 use scan_words::storing;
 ghost use mathlib.Core.Path.{_≡_};
-ghost use lib.ListN.{length};
-ghost use Rattle.answers.specs.Pick.{pick, both};
-ghost use Rattle.answers.specs.Refusals.{wrongLength};
-ghost use Rattle.words.specs.Words.{fits};
-ghost use Rattle.scan.specs.Bins.{fullSlack, inTable, geometryOf, envelopeLen, nearLen, windowLen, prefixLen, lags};
-ghost use Rattle.scan.specs.Calls.{made, wasReset, rearmed, discarded, pushedFar, pushedNear, observed, binSamples, ceilingSamples, framesOf, correlationOf, regionOf, beyondCeiling, isFinished, isExhausted};
-ghost use Rattle.scan_score.specs.Observing.{lent, world};
-ghost use Rattle.scan_runs.specs.Runs.{ran};
-ghost use Rattle.scan_words.specs.Layout.{loaded};
-ghost use Rattle.scan_words.specs.Answers.{changeNumber, takingNumber, scoringNumber, samplesNumber, countNumber, levelNumber, regionNumber, flagNumber, samplesValues, countValues, levelValues, regionValues, scoringValues, changedWords, tookWords, scoredWords};
-ghost use Rattle.trimolaveg.specs.ScanFace.{keptRun, ranWords, ranValues};
+ghost use Rattle.scan.specs.Bins.{fullSlack, geometryOf, envelopeLen, nearLen, windowLen, prefixLen, lags};
+ghost use Rattle.scan_score.specs.Observing.{lent};
+ghost use Rattle.scan_words.specs.Layout.{scanWords};
+ghost use Rattle.trimolaveg.specs.ScanFace.{lengthFor, judgedScan, history, newCalled, resetCalled, rearmCalled, discardNearCalled, pushFarCalled, pushNearCalled, observeCalled, binSamplesCalled, ceilingSamplesCalled, framesCalled, correlationCalled, regionCalled, beyondCeilingCalled, finishedCalled, exhaustedCalled};
+
+fn judge(state: &[u64], values_fit: bool) -> u32
+    ensures { λ r. ⌜ r ≡ judgedScan (now (state .entry)) «values_fit» ⌝ }
+{
+    if state.len() != scan_words::WORDS {
+        return answers::WRONG_LENGTH as u32;
+    }
+    judging::setting_first(
+        scan_calls::rules::in_table(words::half(state[0], 0), words::half(state[1], 0)),
+        values_fit,
+    )
+}
 
 // ---- lengths
 
 // How many words a scan's state has.
 #[no_mangle]
 pub extern "C" fn tmv_scan_words() -> u64
-    ensures { λ r. ⌜ r ≡ 24 ⌝ }
+    ensures { λ r. ⌜ r ≡ scanWords ⌝ }
 {
-    24
+    scan_words::WORDS as u64
 }
 
 // The far envelope's length; 0 where rate or ceiling is outside the table, as of the lengths below.
 #[no_mangle]
 pub extern "C" fn tmv_scan_envelope_len(rate: u32, ceiling: u32) -> u64
-    ensures { λ r. ⌜ r ≡ pick (inTable rate ceiling) (envelopeLen fullSlack (geometryOf rate ceiling)) 0 ⌝ }
+    ensures { λ r. ⌜ r ≡ lengthFor rate ceiling (envelopeLen fullSlack (geometryOf rate ceiling)) ⌝ }
 {
     if scan_calls::rules::in_table(rate, ceiling) {
         return scan_calls::rules::envelope_len(
@@ -43,7 +48,7 @@ pub extern "C" fn tmv_scan_envelope_len(rate: u32, ceiling: u32) -> u64
 // The near levels' length.
 #[no_mangle]
 pub extern "C" fn tmv_scan_levels_len(rate: u32, ceiling: u32) -> u64
-    ensures { λ r. ⌜ r ≡ pick (inTable rate ceiling) (nearLen (geometryOf rate ceiling)) 0 ⌝ }
+    ensures { λ r. ⌜ r ≡ lengthFor rate ceiling (nearLen (geometryOf rate ceiling)) ⌝ }
 {
     if scan_calls::rules::in_table(rate, ceiling) {
         return scan_calls::rules::geometry_of(rate, ceiling).frame;
@@ -54,7 +59,7 @@ pub extern "C" fn tmv_scan_levels_len(rate: u32, ceiling: u32) -> u64
 // The window's length.
 #[no_mangle]
 pub extern "C" fn tmv_scan_window_len(rate: u32, ceiling: u32) -> u64
-    ensures { λ r. ⌜ r ≡ pick (inTable rate ceiling) (windowLen (geometryOf rate ceiling)) 0 ⌝ }
+    ensures { λ r. ⌜ r ≡ lengthFor rate ceiling (windowLen (geometryOf rate ceiling)) ⌝ }
 {
     if scan_calls::rules::in_table(rate, ceiling) {
         let g = scan_calls::rules::geometry_of(rate, ceiling);
@@ -66,7 +71,7 @@ pub extern "C" fn tmv_scan_window_len(rate: u32, ceiling: u32) -> u64
 // The length of each of the two prefix buffers.
 #[no_mangle]
 pub extern "C" fn tmv_scan_prefix_len(rate: u32, ceiling: u32) -> u64
-    ensures { λ r. ⌜ r ≡ pick (inTable rate ceiling) (prefixLen (geometryOf rate ceiling)) 0 ⌝ }
+    ensures { λ r. ⌜ r ≡ lengthFor rate ceiling (prefixLen (geometryOf rate ceiling)) ⌝ }
 {
     if scan_calls::rules::in_table(rate, ceiling) {
         let g = scan_calls::rules::geometry_of(rate, ceiling);
@@ -78,7 +83,7 @@ pub extern "C" fn tmv_scan_prefix_len(rate: u32, ceiling: u32) -> u64
 // The length of the scores and of the lag sums.
 #[no_mangle]
 pub extern "C" fn tmv_scan_lags_len(rate: u32, ceiling: u32) -> u64
-    ensures { λ r. ⌜ r ≡ pick (inTable rate ceiling) (lags (geometryOf rate ceiling)) 0 ⌝ }
+    ensures { λ r. ⌜ r ≡ lengthFor rate ceiling (lags (geometryOf rate ceiling)) ⌝ }
 {
     if scan_calls::rules::in_table(rate, ceiling) {
         return scan_calls::rules::lags(scan_calls::rules::geometry_of(rate, ceiling));
@@ -97,20 +102,19 @@ pub extern "C" fn tmv_scan_new(
     rate: u32,
     ceiling: u32,
 ) -> u32
-    ensures answer { λ r. ⌜ r ≡ pick (fits 24 (now (state .entry))) (changeNumber (made fullSlack rate ceiling (now (envelope .entry)) (now («lag_sums» .entry)) .changed .answer)) wrongLength ⌝ }
-    ensures state { λ r. ⌜ now (state .exit) ≡ pick (fits 24 (now (state .entry))) (changedWords (now (state .entry)) (made fullSlack rate ceiling (now (envelope .entry)) (now («lag_sums» .entry)) .changed)) (now (state .entry)) ⌝ }
-    ensures envelope { λ r. ⌜ now (envelope .exit) ≡ pick (fits 24 (now (state .entry))) (made fullSlack rate ceiling (now (envelope .entry)) (now («lag_sums» .entry)) .envelope) (now (envelope .entry)) ⌝ }
-    ensures sums { λ r. ⌜ now («lag_sums» .exit) ≡ pick (fits 24 (now (state .entry))) (made fullSlack rate ceiling (now (envelope .entry)) (now («lag_sums» .entry)) .lagSums) (now («lag_sums» .entry)) ⌝ }
+    ensures number { λ r. ⌜ r ≡ newCalled (now (state .entry)) (history (now (envelope .entry)) (now («lag_sums» .entry))) rate ceiling .number ⌝ }
+    ensures words { λ r. ⌜ now (state .exit) ≡ newCalled (now (state .entry)) (history (now (envelope .entry)) (now («lag_sums» .entry))) rate ceiling .words ⌝ }
+    ensures history { λ r. ⌜ history (now (envelope .exit)) (now («lag_sums» .exit)) ≡ newCalled (now (state .entry)) (history (now (envelope .entry)) (now («lag_sums» .entry))) rate ceiling .buffers ⌝ }
 {
-    if state.len() != scan_words::WORDS {
-        return answers::WRONG_LENGTH as u32;
+    let refusal = judging::setting_first(
+        scan_calls::rules::in_table(rate, ceiling),
+        state.len() == scan_words::WORDS,
+    );
+    if refusal != 0 {
+        return refusal;
     }
     let changed = scan_calls::new(rate, ceiling, envelope, lag_sums);
-    let made = changed.scan;
-    let answer = changed.answer;
-    let number = answering::change_number(answer);
-    storing::answer(state, number, made);
-    number
+    answering::settle_change(state, changed)
 }
 
 // The scan as it was made.
@@ -120,74 +124,61 @@ pub extern "C" fn tmv_scan_reset(
     envelope: &mut [f32],
     lag_sums: &mut [f64],
 ) -> u32
-    ensures answer { λ r. ⌜ r ≡ pick (fits 24 (now (state .entry))) (changeNumber (wasReset fullSlack (loaded (now (state .entry))) (now (envelope .entry)) (now («lag_sums» .entry)) .changed .answer)) wrongLength ⌝ }
-    ensures state { λ r. ⌜ now (state .exit) ≡ pick (fits 24 (now (state .entry))) (changedWords (now (state .entry)) (wasReset fullSlack (loaded (now (state .entry))) (now (envelope .entry)) (now («lag_sums» .entry)) .changed)) (now (state .entry)) ⌝ }
-    ensures envelope { λ r. ⌜ now (envelope .exit) ≡ pick (fits 24 (now (state .entry))) (wasReset fullSlack (loaded (now (state .entry))) (now (envelope .entry)) (now («lag_sums» .entry)) .envelope) (now (envelope .entry)) ⌝ }
-    ensures sums { λ r. ⌜ now («lag_sums» .exit) ≡ pick (fits 24 (now (state .entry))) (wasReset fullSlack (loaded (now (state .entry))) (now (envelope .entry)) (now («lag_sums» .entry)) .lagSums) (now («lag_sums» .entry)) ⌝ }
+    ensures number { λ r. ⌜ r ≡ resetCalled (now (state .entry)) (history (now (envelope .entry)) (now («lag_sums» .entry))) .number ⌝ }
+    ensures words { λ r. ⌜ now (state .exit) ≡ resetCalled (now (state .entry)) (history (now (envelope .entry)) (now («lag_sums» .entry))) .words ⌝ }
+    ensures history { λ r. ⌜ history (now (envelope .exit)) (now («lag_sums» .exit)) ≡ resetCalled (now (state .entry)) (history (now (envelope .entry)) (now («lag_sums» .entry))) .buffers ⌝ }
 {
-    if state.len() != scan_words::WORDS {
-        return answers::WRONG_LENGTH as u32;
+    let refusal = judge(state, true);
+    if refusal != 0 {
+        return refusal;
     }
     let changed = scan_calls::reset(loading::load(state), envelope, lag_sums);
-    let left = changed.scan;
-    let answer = changed.answer;
-    let number = answering::change_number(answer);
-    storing::answer(state, number, left);
-    number
+    answering::settle_change(state, changed)
 }
 
 // The search begins anew, on the far history as it stands.
 #[no_mangle]
 pub extern "C" fn tmv_scan_rearm(state: &mut [u64], lag_sums: &mut [f64]) -> u32
-    ensures answer { λ r. ⌜ r ≡ pick (fits 24 (now (state .entry))) (changeNumber (rearmed (loaded (now (state .entry))) (now («lag_sums» .entry)) .changed .answer)) wrongLength ⌝ }
-    ensures state { λ r. ⌜ now (state .exit) ≡ pick (fits 24 (now (state .entry))) (changedWords (now (state .entry)) (rearmed (loaded (now (state .entry))) (now («lag_sums» .entry)) .changed)) (now (state .entry)) ⌝ }
-    ensures sums { λ r. ⌜ now («lag_sums» .exit) ≡ pick (fits 24 (now (state .entry))) (rearmed (loaded (now (state .entry))) (now («lag_sums» .entry)) .lagSums) (now («lag_sums» .entry)) ⌝ }
+    ensures number { λ r. ⌜ r ≡ rearmCalled (now (state .entry)) (now («lag_sums» .entry)) .number ⌝ }
+    ensures words { λ r. ⌜ now (state .exit) ≡ rearmCalled (now (state .entry)) (now («lag_sums» .entry)) .words ⌝ }
+    ensures sums { λ r. ⌜ now («lag_sums» .exit) ≡ rearmCalled (now (state .entry)) (now («lag_sums» .entry)) .buffers ⌝ }
 {
-    if state.len() != scan_words::WORDS {
-        return answers::WRONG_LENGTH as u32;
+    let refusal = judge(state, true);
+    if refusal != 0 {
+        return refusal;
     }
     let changed = scan_calls::rearm(loading::load(state), lag_sums);
-    let left = changed.scan;
-    let answer = changed.answer;
-    let number = answering::change_number(answer);
-    storing::answer(state, number, left);
-    number
+    answering::settle_change(state, changed)
 }
 
 // The near frame under way is dropped, and the frames banked.
 #[no_mangle]
 pub extern "C" fn tmv_scan_discard_near(state: &mut [u64], lag_sums: &mut [f64]) -> u32
-    ensures answer { λ r. ⌜ r ≡ pick (fits 24 (now (state .entry))) (changeNumber (discarded (loaded (now (state .entry))) (now («lag_sums» .entry)) .changed .answer)) wrongLength ⌝ }
-    ensures state { λ r. ⌜ now (state .exit) ≡ pick (fits 24 (now (state .entry))) (changedWords (now (state .entry)) (discarded (loaded (now (state .entry))) (now («lag_sums» .entry)) .changed)) (now (state .entry)) ⌝ }
-    ensures sums { λ r. ⌜ now («lag_sums» .exit) ≡ pick (fits 24 (now (state .entry))) (discarded (loaded (now (state .entry))) (now («lag_sums» .entry)) .lagSums) (now («lag_sums» .entry)) ⌝ }
+    ensures number { λ r. ⌜ r ≡ discardNearCalled (now (state .entry)) (now («lag_sums» .entry)) .number ⌝ }
+    ensures words { λ r. ⌜ now (state .exit) ≡ discardNearCalled (now (state .entry)) (now («lag_sums» .entry)) .words ⌝ }
+    ensures sums { λ r. ⌜ now («lag_sums» .exit) ≡ discardNearCalled (now (state .entry)) (now («lag_sums» .entry)) .buffers ⌝ }
 {
-    if state.len() != scan_words::WORDS {
-        return answers::WRONG_LENGTH as u32;
+    let refusal = judge(state, true);
+    if refusal != 0 {
+        return refusal;
     }
     let changed = scan_calls::discard_near(loading::load(state), lag_sums);
-    let left = changed.scan;
-    let answer = changed.answer;
-    let number = answering::change_number(answer);
-    storing::answer(state, number, left);
-    number
+    answering::settle_change(state, changed)
 }
 
 // Far samples, in played order.
 #[no_mangle]
 pub extern "C" fn tmv_scan_push_far(state: &mut [u64], envelope: &mut [f32], samples: &[f32]) -> u32
-    ensures answer { λ r. ⌜ r ≡ pick (fits 24 (now (state .entry))) (changeNumber (pushedFar fullSlack (loaded (now (state .entry))) (now (envelope .entry)) (now (samples .entry)) .changed .answer)) wrongLength ⌝ }
-    ensures state { λ r. ⌜ now (state .exit) ≡ pick (fits 24 (now (state .entry))) (changedWords (now (state .entry)) (pushedFar fullSlack (loaded (now (state .entry))) (now (envelope .entry)) (now (samples .entry)) .changed)) (now (state .entry)) ⌝ }
-    ensures envelope { λ r. ⌜ now (envelope .exit) ≡ pick (fits 24 (now (state .entry))) (pushedFar fullSlack (loaded (now (state .entry))) (now (envelope .entry)) (now (samples .entry)) .envelope) (now (envelope .entry)) ⌝ }
+    ensures number { λ r. ⌜ r ≡ pushFarCalled (now (state .entry)) (now (envelope .entry)) (now (samples .entry)) .number ⌝ }
+    ensures words { λ r. ⌜ now (state .exit) ≡ pushFarCalled (now (state .entry)) (now (envelope .entry)) (now (samples .entry)) .words ⌝ }
+    ensures envelope { λ r. ⌜ now (envelope .exit) ≡ pushFarCalled (now (state .entry)) (now (envelope .entry)) (now (samples .entry)) .buffers ⌝ }
 {
-    if state.len() != scan_words::WORDS {
-        return answers::WRONG_LENGTH as u32;
+    let refusal = judge(state, true);
+    if refusal != 0 {
+        return refusal;
     }
     let changed = scan_push::push_far(loading::load(state), envelope, samples);
-    let left = changed.scan;
-    let answer = changed.answer;
-    let number = answering::change_number(answer);
-    storing::answer(state, number, left);
-    number
+    answering::settle_change(state, changed)
 }
 
 // One near sample with its index: 16 ignored, 17 dropped, 18 taken, 19 the frame is full.
@@ -198,59 +189,18 @@ pub extern "C" fn tmv_scan_push_near(
     sample: f32,
     index: u64,
 ) -> u32
-    ensures answer { λ r. ⌜ r ≡ pick (fits 24 (now (state .entry))) (takingNumber (pushedNear (loaded (now (state .entry))) (now (levels .entry)) sample index .took .answer)) wrongLength ⌝ }
-    ensures state { λ r. ⌜ now (state .exit) ≡ pick (fits 24 (now (state .entry))) (tookWords (now (state .entry)) (pushedNear (loaded (now (state .entry))) (now (levels .entry)) sample index .took)) (now (state .entry)) ⌝ }
-    ensures levels { λ r. ⌜ now (levels .exit) ≡ pick (fits 24 (now (state .entry))) (pushedNear (loaded (now (state .entry))) (now (levels .entry)) sample index .levels) (now (levels .entry)) ⌝ }
+    ensures number { λ r. ⌜ r ≡ pushNearCalled (now (state .entry)) (now (levels .entry)) sample index .number ⌝ }
+    ensures words { λ r. ⌜ now (state .exit) ≡ pushNearCalled (now (state .entry)) (now (levels .entry)) sample index .words ⌝ }
+    ensures levels { λ r. ⌜ now (levels .exit) ≡ pushNearCalled (now (state .entry)) (now (levels .entry)) sample index .buffers ⌝ }
 {
-    if state.len() != scan_words::WORDS {
-        return answers::WRONG_LENGTH as u32;
+    let refusal = judge(state, true);
+    if refusal != 0 {
+        return refusal;
     }
     let took = scan_push::push_near(loading::load(state), levels, sample, index);
-    let left = took.scan;
+    let next = took.scan;
     let answer = took.answer;
-    let number = answering::taking_number(answer);
-    storing::answer(state, number, left);
-    number
-}
-
-// What a run leaves in the words: nothing new where no sample passed.
-fn keep_run(state: &mut [u64], scan: Scan, passed: usize)
-    requires { ⌜ length (now state) ≡ 24 ⌝ }
-    ensures { λ _. ⌜ now (state .exit) ≡ keptRun (now (state .entry)) scan passed ⌝ }
-{
-    if passed == 0 {
-        return;
-    }
-    storing::answer(state, 16, scan);
-}
-
-// Near samples of consecutive indices, from `first` on, as many as are ignored, dropped or taken: the run ends before the first one that is refused or fills the frame.
-// That one is pushed by itself, which says what it is. Where no sample passes nothing is stored, so that words which are no state are left as they are.
-#[no_mangle]
-pub extern "C" fn tmv_scan_push_near_run(
-    state: &mut [u64],
-    levels: &mut [f32],
-    samples: &[f32],
-    first: u64,
-    values: &mut [u64],
-) -> u32
-    ensures answer { λ r. ⌜ r ≡ pick (both (fits 24 (now (state .entry))) (fits 1 (now (values .entry)))) 16 wrongLength ⌝ }
-    ensures state { λ r. ⌜ now (state .exit) ≡ pick (both (fits 24 (now (state .entry))) (fits 1 (now (values .entry)))) (ranWords (now (state .entry)) (ran (loaded (now (state .entry))) (now (levels .entry)) (now (samples .entry)) first)) (now (state .entry)) ⌝ }
-    ensures levels { λ r. ⌜ now (levels .exit) ≡ pick (both (fits 24 (now (state .entry))) (fits 1 (now (values .entry)))) (ran (loaded (now (state .entry))) (now (levels .entry)) (now (samples .entry)) first .levels) (now (levels .entry)) ⌝ }
-    ensures values { λ r. ⌜ now (values .exit) ≡ pick (both (fits 24 (now (state .entry))) (fits 1 (now (values .entry)))) (ranValues (now (values .entry)) (ran (loaded (now (state .entry))) (now (levels .entry)) (now (samples .entry)) first)) (now (values .entry)) ⌝ }
-{
-    if state.len() != scan_words::WORDS {
-        return answers::WRONG_LENGTH as u32;
-    }
-    if values.len() != 1 {
-        return answers::WRONG_LENGTH as u32;
-    }
-    let run = scan_runs::push_near_run(loading::load(state), levels, samples, first);
-    let left = run.scan;
-    let passed = run.passed;
-    keep_run(state, left, passed);
-    values[0] = passed as u64;
-    16
+    storing::settle(state, answering::taking_number(answer), next)
 }
 
 // A full frame is scored: 16 uncovered, 17 ahead, 18 quiet, 19 flat, 20 banked (its peak as f32), 21 weak, 22 ceiling, 23 crowded, 24 a region (delay, correlation as f64).
@@ -266,16 +216,14 @@ pub extern "C" fn tmv_scan_observe(
     lag_sums: &mut [f64],
     values: &mut [u64],
 ) -> u32
-    ensures answer { λ r. ⌜ r ≡ pick (both (fits 24 (now (state .entry))) (fits 2 (now (values .entry)))) (scoringNumber (observed fullSlack (world (loaded (now (state .entry))) (lent (now (envelope .entry)) (now (levels .entry)) (now (window .entry)) (now (prefix .entry)) (now (squares .entry)) (now (scores .entry)) (now («lag_sums» .entry)))) .scored .answer)) wrongLength ⌝ }
-    ensures state { λ r. ⌜ now (state .exit) ≡ pick (both (fits 24 (now (state .entry))) (fits 2 (now (values .entry)))) (scoredWords (now (state .entry)) (observed fullSlack (world (loaded (now (state .entry))) (lent (now (envelope .entry)) (now (levels .entry)) (now (window .entry)) (now (prefix .entry)) (now (squares .entry)) (now (scores .entry)) (now («lag_sums» .entry)))) .scored)) (now (state .entry)) ⌝ }
-    ensures buffers { λ r. ⌜ lent (now (envelope .entry)) (now (levels .entry)) (now (window .exit)) (now (prefix .exit)) (now (squares .exit)) (now (scores .exit)) (now («lag_sums» .exit)) ≡ pick (both (fits 24 (now (state .entry))) (fits 2 (now (values .entry)))) (observed fullSlack (world (loaded (now (state .entry))) (lent (now (envelope .entry)) (now (levels .entry)) (now (window .entry)) (now (prefix .entry)) (now (squares .entry)) (now (scores .entry)) (now («lag_sums» .entry)))) .buffers) (lent (now (envelope .entry)) (now (levels .entry)) (now (window .entry)) (now (prefix .entry)) (now (squares .entry)) (now (scores .entry)) (now («lag_sums» .entry))) ⌝ }
-    ensures values { λ r. ⌜ now (values .exit) ≡ pick (both (fits 24 (now (state .entry))) (fits 2 (now (values .entry)))) (scoringValues (now (values .entry)) (observed fullSlack (world (loaded (now (state .entry))) (lent (now (envelope .entry)) (now (levels .entry)) (now (window .entry)) (now (prefix .entry)) (now (squares .entry)) (now (scores .entry)) (now («lag_sums» .entry)))) .scored .answer)) (now (values .entry)) ⌝ }
+    ensures number { λ r. ⌜ r ≡ observeCalled (now (state .entry)) (lent (now (envelope .entry)) (now (levels .entry)) (now (window .entry)) (now (prefix .entry)) (now (squares .entry)) (now (scores .entry)) (now («lag_sums» .entry))) (now (values .entry)) .number ⌝ }
+    ensures words { λ r. ⌜ now (state .exit) ≡ observeCalled (now (state .entry)) (lent (now (envelope .entry)) (now (levels .entry)) (now (window .entry)) (now (prefix .entry)) (now (squares .entry)) (now (scores .entry)) (now («lag_sums» .entry))) (now (values .entry)) .words ⌝ }
+    ensures buffers { λ r. ⌜ lent (now (envelope .entry)) (now (levels .entry)) (now (window .exit)) (now (prefix .exit)) (now (squares .exit)) (now (scores .exit)) (now («lag_sums» .exit)) ≡ observeCalled (now (state .entry)) (lent (now (envelope .entry)) (now (levels .entry)) (now (window .entry)) (now (prefix .entry)) (now (squares .entry)) (now (scores .entry)) (now («lag_sums» .entry))) (now (values .entry)) .buffers ⌝ }
+    ensures values { λ r. ⌜ now (values .exit) ≡ observeCalled (now (state .entry)) (lent (now (envelope .entry)) (now (levels .entry)) (now (window .entry)) (now (prefix .entry)) (now (squares .entry)) (now (scores .entry)) (now («lag_sums» .entry))) (now (values .entry)) .values ⌝ }
 {
-    if state.len() != scan_words::WORDS {
-        return answers::WRONG_LENGTH as u32;
-    }
-    if values.len() != scan_words::FRAME_VALUES {
-        return answers::WRONG_LENGTH as u32;
+    let refusal = judge(state, values.len() == answering::FRAME_VALUES);
+    if refusal != 0 {
+        return refusal;
     }
     let scored = scan_score::observe(
         loading::load(state),
@@ -287,12 +235,9 @@ pub extern "C" fn tmv_scan_observe(
         scores,
         lag_sums,
     );
-    let left = scored.scan;
+    let next = scored.scan;
     let answer = scored.answer;
-    let number = answering::scoring_number(answer);
-    storing::answer(state, number, left);
-    answering::place_scoring(values, answer);
-    number
+    storing::settle(state, answering::tell_scoring(values, answer), next)
 }
 
 // ---- reports
@@ -300,115 +245,114 @@ pub extern "C" fn tmv_scan_observe(
 // One bin in native samples.
 #[no_mangle]
 pub extern "C" fn tmv_scan_bin_samples(state: &[u64], values: &mut [u64]) -> u32
-    ensures answer { λ r. ⌜ r ≡ pick (both (fits 24 (now (state .entry))) (fits 1 (now (values .entry)))) (samplesNumber (binSamples (loaded (now (state .entry))))) wrongLength ⌝ }
-    ensures values { λ r. ⌜ now (values .exit) ≡ pick (both (fits 24 (now (state .entry))) (fits 1 (now (values .entry)))) (samplesValues (now (values .entry)) (binSamples (loaded (now (state .entry))))) (now (values .entry)) ⌝ }
+    ensures number { λ r. ⌜ r ≡ binSamplesCalled (now (state .entry)) (now (values .entry)) .number ⌝ }
+    ensures values { λ r. ⌜ now (values .exit) ≡ binSamplesCalled (now (state .entry)) (now (values .entry)) .values ⌝ }
 {
-    if state.len() != scan_words::WORDS {
-        return answers::WRONG_LENGTH as u32;
+    let refusal = judge(state, values.len() == words::ONE_VALUE);
+    if refusal != 0 {
+        return refusal;
     }
-    if values.len() != 1 {
-        return answers::WRONG_LENGTH as u32;
-    }
-    let report = scan_calls::reports::bin_samples(loading::load(state));
-    answering::give_samples(values, report)
+    answering::tell_samples(
+        values,
+        scan_calls::reports::bin_samples(loading::load(state)),
+    )
 }
 
 // The ceiling in native samples.
 #[no_mangle]
 pub extern "C" fn tmv_scan_ceiling_samples(state: &[u64], values: &mut [u64]) -> u32
-    ensures answer { λ r. ⌜ r ≡ pick (both (fits 24 (now (state .entry))) (fits 1 (now (values .entry)))) (samplesNumber (ceilingSamples (loaded (now (state .entry))))) wrongLength ⌝ }
-    ensures values { λ r. ⌜ now (values .exit) ≡ pick (both (fits 24 (now (state .entry))) (fits 1 (now (values .entry)))) (samplesValues (now (values .entry)) (ceilingSamples (loaded (now (state .entry))))) (now (values .entry)) ⌝ }
+    ensures number { λ r. ⌜ r ≡ ceilingSamplesCalled (now (state .entry)) (now (values .entry)) .number ⌝ }
+    ensures values { λ r. ⌜ now (values .exit) ≡ ceilingSamplesCalled (now (state .entry)) (now (values .entry)) .values ⌝ }
 {
-    if state.len() != scan_words::WORDS {
-        return answers::WRONG_LENGTH as u32;
+    let refusal = judge(state, values.len() == words::ONE_VALUE);
+    if refusal != 0 {
+        return refusal;
     }
-    if values.len() != 1 {
-        return answers::WRONG_LENGTH as u32;
-    }
-    let report = scan_calls::reports::ceiling_samples(loading::load(state));
-    answering::give_samples(values, report)
+    answering::tell_samples(
+        values,
+        scan_calls::reports::ceiling_samples(loading::load(state)),
+    )
 }
 
 // The frames counted.
 #[no_mangle]
 pub extern "C" fn tmv_scan_frames(state: &[u64], values: &mut [u64]) -> u32
-    ensures answer { λ r. ⌜ r ≡ pick (both (fits 24 (now (state .entry))) (fits 1 (now (values .entry)))) (countNumber (framesOf (loaded (now (state .entry))))) wrongLength ⌝ }
-    ensures values { λ r. ⌜ now (values .exit) ≡ pick (both (fits 24 (now (state .entry))) (fits 1 (now (values .entry)))) (countValues (now (values .entry)) (framesOf (loaded (now (state .entry))))) (now (values .entry)) ⌝ }
+    ensures number { λ r. ⌜ r ≡ framesCalled (now (state .entry)) (now (values .entry)) .number ⌝ }
+    ensures values { λ r. ⌜ now (values .exit) ≡ framesCalled (now (state .entry)) (now (values .entry)) .values ⌝ }
 {
-    if state.len() != scan_words::WORDS {
-        return answers::WRONG_LENGTH as u32;
+    let refusal = judge(state, values.len() == words::ONE_VALUE);
+    if refusal != 0 {
+        return refusal;
     }
-    if values.len() != 1 {
-        return answers::WRONG_LENGTH as u32;
-    }
-    let report = scan_calls::reports::frames(loading::load(state));
-    answering::give_count(values, report)
+    answering::tell_count(values, scan_calls::reports::frames(loading::load(state)))
 }
 
 // The region's averaged correlation as f32, and before there is one the last frame's peak.
 #[no_mangle]
 pub extern "C" fn tmv_scan_correlation(state: &[u64], values: &mut [u64]) -> u32
-    ensures answer { λ r. ⌜ r ≡ pick (both (fits 24 (now (state .entry))) (fits 1 (now (values .entry)))) (levelNumber (correlationOf (loaded (now (state .entry))))) wrongLength ⌝ }
-    ensures values { λ r. ⌜ now (values .exit) ≡ pick (both (fits 24 (now (state .entry))) (fits 1 (now (values .entry)))) (levelValues (now (values .entry)) (correlationOf (loaded (now (state .entry))))) (now (values .entry)) ⌝ }
+    ensures number { λ r. ⌜ r ≡ correlationCalled (now (state .entry)) (now (values .entry)) .number ⌝ }
+    ensures values { λ r. ⌜ now (values .exit) ≡ correlationCalled (now (state .entry)) (now (values .entry)) .values ⌝ }
 {
-    if state.len() != scan_words::WORDS {
-        return answers::WRONG_LENGTH as u32;
+    let refusal = judge(state, values.len() == words::ONE_VALUE);
+    if refusal != 0 {
+        return refusal;
     }
-    if values.len() != 1 {
-        return answers::WRONG_LENGTH as u32;
-    }
-    let report = scan_calls::reports::correlation(loading::load(state));
-    answering::give_level(values, report)
+    answering::tell_level(
+        values,
+        loading::level_pattern(state),
+        scan_calls::reports::correlation(loading::load(state)),
+    )
 }
 
 // The region: 16 none, 17 one (delay, correlation as f64).
 #[no_mangle]
 pub extern "C" fn tmv_scan_region(state: &[u64], values: &mut [u64]) -> u32
-    ensures answer { λ r. ⌜ r ≡ pick (both (fits 24 (now (state .entry))) (fits 2 (now (values .entry)))) (regionNumber (regionOf (loaded (now (state .entry))))) wrongLength ⌝ }
-    ensures values { λ r. ⌜ now (values .exit) ≡ pick (both (fits 24 (now (state .entry))) (fits 2 (now (values .entry)))) (regionValues (now (values .entry)) (regionOf (loaded (now (state .entry))))) (now (values .entry)) ⌝ }
+    ensures number { λ r. ⌜ r ≡ regionCalled (now (state .entry)) (now (values .entry)) .number ⌝ }
+    ensures values { λ r. ⌜ now (values .exit) ≡ regionCalled (now (state .entry)) (now (values .entry)) .values ⌝ }
 {
-    if state.len() != scan_words::WORDS {
-        return answers::WRONG_LENGTH as u32;
+    let refusal = judge(state, values.len() == answering::REGION_VALUES);
+    if refusal != 0 {
+        return refusal;
     }
-    if values.len() != scan_words::REGION_VALUES {
-        return answers::WRONG_LENGTH as u32;
-    }
-    let report = scan_calls::reports::region(loading::load(state));
-    answering::give_region(values, report)
+    answering::tell_region(
+        values,
+        state[21],
+        scan_calls::reports::region(loading::load(state)),
+    )
 }
 
 // Whether a peak stood at the ceiling: 16 no, 17 yes, as of the flags below.
 #[no_mangle]
 pub extern "C" fn tmv_scan_beyond_ceiling(state: &[u64]) -> u32
-    ensures { λ r. ⌜ r ≡ pick (fits 24 (now (state .entry))) (flagNumber (beyondCeiling (loaded (now (state .entry))))) wrongLength ⌝ }
+    ensures { λ r. ⌜ r ≡ beyondCeilingCalled (now (state .entry)) .number ⌝ }
 {
-    if state.len() != scan_words::WORDS {
-        return answers::WRONG_LENGTH as u32;
+    let refusal = judge(state, true);
+    if refusal != 0 {
+        return refusal;
     }
-    let report = scan_calls::reports::beyond_ceiling(loading::load(state));
-    answering::flag_number(report)
+    answering::flag_number(scan_calls::reports::beyond_ceiling(loading::load(state)))
 }
 
 // Whether the scan found a region or gave up.
 #[no_mangle]
 pub extern "C" fn tmv_scan_finished(state: &[u64]) -> u32
-    ensures { λ r. ⌜ r ≡ pick (fits 24 (now (state .entry))) (flagNumber (isFinished (loaded (now (state .entry))))) wrongLength ⌝ }
+    ensures { λ r. ⌜ r ≡ finishedCalled (now (state .entry)) .number ⌝ }
 {
-    if state.len() != scan_words::WORDS {
-        return answers::WRONG_LENGTH as u32;
+    let refusal = judge(state, true);
+    if refusal != 0 {
+        return refusal;
     }
-    let report = scan_calls::reports::finished(loading::load(state));
-    answering::flag_number(report)
+    answering::flag_number(scan_calls::reports::finished(loading::load(state)))
 }
 
 // Whether the scan gave up.
 #[no_mangle]
 pub extern "C" fn tmv_scan_exhausted(state: &[u64]) -> u32
-    ensures { λ r. ⌜ r ≡ pick (fits 24 (now (state .entry))) (flagNumber (isExhausted (loaded (now (state .entry))))) wrongLength ⌝ }
+    ensures { λ r. ⌜ r ≡ exhaustedCalled (now (state .entry)) .number ⌝ }
 {
-    if state.len() != scan_words::WORDS {
-        return answers::WRONG_LENGTH as u32;
+    let refusal = judge(state, true);
+    if refusal != 0 {
+        return refusal;
     }
-    let report = scan_calls::reports::exhausted(loading::load(state));
-    answering::flag_number(report)
+    answering::flag_number(scan_calls::reports::exhausted(loading::load(state)))
 }

@@ -1,43 +1,33 @@
 -- `trimolaveg::scan_face::tmv_scan_bin_samples` meets its contract.
-use borrow.Author.Tests.{eq-eqb, ne-eqb}
-use mathlib.Core.Path.{refl}
-use Rattle.scan_words.proofs.Chosen.{given, kept, both-fit, first-not, second-not}
+use mathlib.Core.Path.{sym, _∙_}
+use Rattle.trimolaveg.specs.ScanFace.{binSamplesCalled}
+use Rattle.trimolaveg.proofs.Order.{state-fits, values-fit, refused, let-pass, number-is, values-are}
 use borrow.Author.Needs.{needs}
 use Rattle.trimolaveg.proofs.scan_face.tmv_scan_bin_samples.Statement.{statement}
 use Rattle.trimolaveg.proofs.scan_face.tmv_scan_bin_samples.Tie as tie
 
-cast-result : tie.Need-cast-result
-cast-result c = search needs
+judge-requires : tie.Need-judge-requires
+judge-requires c κs = search needs
 
 returns : tie.Need-returns
-returns c = (kept _ _ _ _ (first-not _ _ (ne-eqb _ _ (c .if1 .taken))) refl, kept _ _ _ _ (first-not _ _ (ne-eqb _ _ (c .if1 .taken))) refl)
-
-cast-result-2 : tie.Need-cast-result-2
-cast-result-2 c = search needs
-
-returns-2 : tie.Need-returns-2
-returns-2 c = (kept _ _ _ _ (second-not _ _ (eq-eqb _ _ (c .before .if1 .left)) (ne-eqb _ _ (c .if2 .taken))) refl, kept _ _ _ _ (second-not _ _ (eq-eqb _ _ (c .before .if1 .left)) (ne-eqb _ _ (c .if2 .taken))) refl)
+unfolding binSamplesCalled
+returns c = let w = refused _ _ _ _ _ _ (c .before .judge .ensures) (c .if1 .taken) in (number-is w, values-are w)
 
 load-requires : tie.Need-load-requires
-load-requires c κs = search needs
+load-requires c κs = state-fits _ (c .before .before .before .before .before .args .state .now) _ _ (sym (c .before .before .judge .ensures) ∙ c .before .if1 .left)
 
 bin-samples-requires : tie.Need-bin-samples-requires
 bin-samples-requires c κs = search needs
 
-give-samples-requires : tie.Need-give-samples-requires
-give-samples-requires c κs = search needs
+tell-samples-requires : tie.Need-tell-samples-requires
+tell-samples-requires c κs = values-fit _ _ _ (c .before .before .before .before .before .before .before .args .values .now) (sym (c .before .before .before .before .judge .ensures) ∙ c .before .before .before .if1 .left)
 
 same-length : tie.Need-same-length
 same-length c = search needs
 
-returns-3 : tie.Need-returns-3
-returns-3 c =
-    let l = c .before .before .before .before .before .load .ensures in
-    let d = c .before .before .before .before .bin-samples .ensures in
-    let v = c .before .before .give-samples .ensures in (
-      given _ _ _ _ (both-fit _ _ (eq-eqb _ _ (c .before .before .before .before .before .before .before .if1 .left)) (eq-eqb _ _ (c .before .before .before .before .before .before .if2 .left))) (cc (l, d, v .0)),
-      given _ _ _ _ (both-fit _ _ (eq-eqb _ _ (c .before .before .before .before .before .before .before .if1 .left)) (eq-eqb _ _ (c .before .before .before .before .before .before .if2 .left))) (cc (l, d, v .1)),
-    )
+returns-2 : tie.Need-returns-2
+unfolding binSamplesCalled
+returns-2 c = let p = let-pass _ _ _ _ _ _ (c .before .before .before .before .before .before .before .judge .ensures) (c .before .before .before .before .before .before .if1 .left) in (cc (c .before .before .tell-samples .ensures .0, c .before .before .before .bin-samples .ensures, c .before .before .before .before .load .ensures) ∙ number-is p, cc (c .before .before .tell-samples .ensures .1, c .before .before .before .bin-samples .ensures, c .before .before .before .before .load .ensures) ∙ values-are p)
 
 pub tmv-scan-bin-samples-spec : {M : Type 1} → statement M
-tmv-scan-bin-samples-spec = tie.close (tie.spec cast-result returns cast-result-2 returns-2 load-requires bin-samples-requires give-samples-requires same-length returns-3)
+tmv-scan-bin-samples-spec = tie.close (tie.spec judge-requires returns load-requires bin-samples-requires tell-samples-requires same-length returns-2)

@@ -1,34 +1,30 @@
 -- `trimolaveg::scan_face::tmv_scan_new` meets its contract.
-use borrow.Author.Tests.{eq-eqb, ne-eqb}
-use mathlib.Core.Path.{refl}
-use Rattle.scan_words.proofs.Chosen.{given, kept}
+use mathlib.Core.Path.{sym, _∙_, ap}
+use mathlib.Core.Bool.{Bool}
+use Rattle.words.specs.Words.{fits}
+use Rattle.scan_words.specs.Layout.{scanWords}
+use Rattle.trimolaveg.specs.Face.{settingFirst}
+use Rattle.trimolaveg.specs.ScanFace.{newCalled}
+use Rattle.trimolaveg.proofs.Order.{list-fits, refused, let-pass, number-is, words-are, buffers-are}
 use borrow.Author.Needs.{needs}
 use Rattle.trimolaveg.proofs.scan_face.tmv_scan_new.Statement.{statement}
 use Rattle.trimolaveg.proofs.scan_face.tmv_scan_new.Tie as tie
 
-cast-result : tie.Need-cast-result
-cast-result c = search needs
+in-table-requires : tie.Need-in-table-requires
+in-table-requires c κs = search needs
+
+setting-first-requires : tie.Need-setting-first-requires
+setting-first-requires c κs = search needs
 
 returns : tie.Need-returns
-returns c = (
-  kept _ _ _ _ (ne-eqb _ _ (c .if1 .taken)) refl,
-  (
-    kept _ _ _ _ (ne-eqb _ _ (c .if1 .taken)) refl,
-    (
-      kept _ _ _ _ (ne-eqb _ _ (c .if1 .taken)) refl,
-      kept _ _ _ _ (ne-eqb _ _ (c .if1 .taken)) refl,
-    ),
-  ),
-)
+unfolding newCalled
+returns c = let w = refused _ _ _ _ _ _ (c .before .setting-first .ensures ∙ ap (λ (a : Bool). settingFirst a (fits scanWords (c .before .before .before .before .before .before .args .state .now))) (c .before .before .in-table .ensures)) (c .if1 .taken) in (number-is w, (words-are w, buffers-are w))
 
 new-requires : tie.Need-new-requires
 new-requires c κs = search needs
 
-change-number-requires : tie.Need-change-number-requires
-change-number-requires c κs = search needs
-
-answer-requires : tie.Need-answer-requires
-answer-requires c κs = search needs
+settle-change-requires : tie.Need-settle-change-requires
+settle-change-requires c κs = list-fits _ _ (c .before .before .before .before .before .before .before .before .before .before .before .before .before .before .args .state .now) (sym (c .before .before .before .before .before .before .before .before .before .setting-first .ensures) ∙ c .before .before .before .before .before .before .before .before .if1 .left)
 
 same-length : tie.Need-same-length
 same-length c = search needs
@@ -40,20 +36,8 @@ same-length-3 : tie.Need-same-length-3
 same-length-3 c = search needs
 
 returns-2 : tie.Need-returns-2
-returns-2 c =
-    let t = eq-eqb _ _ (c .before .before .before .before .before .before .before .before .before .before .before .before .before .if1 .left) in
-    let d = c .before .before .before .before .before .before .before .before .before .before .new .ensures in
-    let n = c .before .before .before .before .change-number .ensures in
-    let a = c .before .before .answer .ensures in (
-      given _ _ _ _ t (cc (d .0, n)),
-      (
-        given _ _ _ _ t (cc (d .0, n, a)),
-        (
-          given _ _ _ _ t (cc (d .1 .0)),
-          given _ _ _ _ t (cc (d .1 .1)),
-        ),
-      ),
-    )
+unfolding newCalled
+returns-2 c = let p = let-pass _ _ _ _ _ _ (c .before .before .before .before .before .before .before .before .before .before .before .before .setting-first .ensures ∙ ap (λ (a : Bool). settingFirst a (fits scanWords (c .before .before .before .before .before .before .before .before .before .before .before .before .before .before .before .before .before .args .state .now))) (c .before .before .before .before .before .before .before .before .before .before .before .before .before .in-table .ensures)) (c .before .before .before .before .before .before .before .before .before .before .before .if1 .left) in (cc (c .before .before .settle-change .ensures .0, c .before .before .before .before .before .before .before .before .new .ensures .0) ∙ number-is p, (cc (c .before .before .settle-change .ensures .1, c .before .before .before .before .before .before .before .before .new .ensures .0) ∙ words-are p, cc (c .before .before .before .before .before .before .before .before .new .ensures .1 .0, c .before .before .before .before .before .before .before .before .new .ensures .1 .1) ∙ buffers-are p))
 
 pub tmv-scan-new-spec : {M : Type 1} → statement M
-tmv-scan-new-spec = tie.close (tie.spec cast-result returns new-requires change-number-requires answer-requires same-length same-length-2 same-length-3 returns-2)
+tmv-scan-new-spec = tie.close (tie.spec in-table-requires setting-first-requires returns new-requires settle-change-requires same-length same-length-2 same-length-3 returns-2)
