@@ -3,10 +3,12 @@
 use crate::coarse::CoarseScan;
 use crate::delay::{DelayEstimator, WindowSupport};
 use crate::face;
-use crate::fines::calls::World as FineWorld;
+use crate::fines::world::World as FineWorld;
 use crate::ring::ReferenceRing;
 use crate::rules::LIMIT;
-use crate::scans::calls::{observe, Call};
+use crate::scans::beside;
+use crate::scans::calls::{self, observe};
+use crate::scans::shape::Call;
 use crate::scans::world::World;
 use crate::track::{CycleOutcome, Tracker};
 
@@ -167,6 +169,7 @@ fn trackers() -> Vec<Difference> {
 }
 
 fn scans() -> Vec<Difference> {
+    let near = |sample: f32, index: u64| Call::PushNear { sample, index };
     let no_number = [f32::NAN; 48];
     let mut original = CoarseScan::new(48_000, 1);
     original.push_far(&no_number);
@@ -182,21 +185,13 @@ fn scans() -> Vec<Difference> {
 
     let mut full = World::new(48_000, 1);
     full.set_word(12, full.bins().frame);
-    let mut waiting = full.original();
+    let mut waiting = beside::original(&full);
     waiting.push_near(0.5, 0);
-    let waits = Call::PushNear {
-        sample: 0.5,
-        index: 0,
-    }
-    .face(&mut full);
+    let waits = calls::face(&mut full, &near(0.5, 0));
 
     let mut done = World::new(48_000, 1);
     done.set_word(23, 1);
-    let ignored = Call::PushNear {
-        sample: f32::NAN,
-        index: u64::MAX,
-    }
-    .face(&mut done);
+    let ignored = calls::face(&mut done, &near(f32::NAN, u64::MAX));
     vec![
         Difference {
             input: "a block of far samples that are no numbers",
@@ -234,7 +229,10 @@ fn scans() -> Vec<Difference> {
         Difference {
             input: "a sample that is no number to a finished scan",
             rust: (
-                format!("says {}", done.original().push_near(f32::NAN, u64::MAX)),
+                format!(
+                    "says {}",
+                    beside::original(&done).push_near(f32::NAN, u64::MAX)
+                ),
                 "says false",
             ),
             here: (refused(ignored), "answers 16"),

@@ -14,7 +14,6 @@ pub fn run() -> bool {
     scan::frames(48_000, 4_000, 60);
     far_pushes();
     scan::near_push();
-    scan::near_run();
     tracker::cycle();
     fine::peak(1_000);
     fine::peak(32_768);

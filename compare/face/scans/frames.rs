@@ -1,10 +1,11 @@
 //! Counted frames, bit for bit: every sort of level, echoes, histories long along, spans up to the largest.
 
+use crate::lists::Lists;
 use crate::random::Random;
-use crate::scans::calls::{frame_answer, observe, OBSERVED};
-use crate::scans::teleport;
+use crate::scans::calls::{frame_answer, observe};
+use crate::scans::shape::OBSERVED;
 use crate::scans::world::World;
-use crate::scans::RATES;
+use crate::scans::{beside, teleport, RATES};
 
 const CEILINGS: [u32; 12] = [1, 2, 7, 8, 9, 20, 31, 64, 120, 250, 300, 500];
 /// Naming an answer asks the original several times, so only some frames are named.
@@ -17,15 +18,15 @@ pub fn run(seed: u64, count: u64) -> bool {
     while done < count {
         scans += 1;
         let mut w = begin(&mut random);
-        let mut original = w.original();
+        let mut original = beside::original(&w);
         for _ in 0..random.between(20, 80) {
             if w.finished() || random.once_in(40) {
                 search_anew(&mut w);
             }
             teleport::near(&mut random, &mut w);
-            w.bring(&mut original);
-            for part in OBSERVED {
-                w.part(part).keep();
+            beside::bring(&w, &mut original);
+            for list in OBSERVED {
+                w.list(list).keep();
             }
             let named = (done % NAMED == 0).then(|| original.scored());
             if named.is_none() {
@@ -40,9 +41,7 @@ pub fn run(seed: u64, count: u64) -> bool {
                 let told = w.values.all().starts_with(&values);
                 (number != got || !told).then(|| format!("the Rust answers {number} {values:?}"))
             });
-            let wrong = misnamed
-                .or_else(|| w.word_differs(w.words_before(), &original))
-                .or_else(|| w.buffer_differs(&original, &OBSERVED));
+            let wrong = misnamed.or_else(|| beside::differs(&w, &original, &OBSERVED));
             if let Some(what) = wrong {
                 different += 1;
                 println!(
