@@ -10,18 +10,22 @@ pub fn new(span: u32) -> DelayEstimator {
     DelayEstimator::new(1000, span as u16)
 }
 
-/// Brings an original of the same span to the state that the words and both frames said. A count at its largest value,
-/// which the original would pass, is set one lower.
+/// Brings an original to the state that the words and both frames said. A count at its largest value, which the original would pass, is set
+/// one lower. Where the words say another span than the lists have, frames that do not fit are not lent.
 pub fn bring(w: &World, fine: &mut DelayEstimator) {
     let words = w.state.before();
+    if fine.max_delay() as u64 != words[0] {
+        *fine = new(words[0] as u32);
+    }
     let retained = (words[5] == 1).then(|| w.retained.before());
     let counts = (
         lower(words[6], u32::MAX as u64) as u32,
         lower(words[7], u32::MAX as u64) as u32,
         lower(words[8], u64::MAX),
     );
-    let near = &w.near.before()[..words[4] as usize];
-    fine.set_state(words[3] as usize, near, retained, counts);
+    let mut near = w.near.before().to_vec();
+    near.resize(words[4] as usize, 0.0);
+    fine.set_state(words[3] as usize, &near, retained, counts);
     set_last_scan(words, fine);
 }
 

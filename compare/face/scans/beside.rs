@@ -13,9 +13,10 @@ pub fn original(w: &World) -> CoarseScan {
     scan
 }
 
-/// Brings an original of the same rate and ceiling to the same state.
+/// Brings an original of the same rate and ceiling to the same state. Where the words say another setting than the buffers have, those that do not fit are not lent.
 pub fn bring(w: &World, scan: &mut CoarseScan) {
-    let near = &w.levels.all()[..w.word(12) as usize];
+    let near = w.levels.all();
+    let near = &near[..near.len().min(w.word(12) as usize)];
     scan.set_buffers(
         [w.envelope.all(), near, w.window.all()],
         [
