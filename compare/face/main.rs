@@ -82,8 +82,8 @@ fn short(seed: u64) -> bool {
         ("lengths", 100_000),
         ("ring", 300_000),
         ("tracker", 300_000),
-        ("scan", 150_000),
-        ("fine", 60_000),
+        ("scan", 300_000),
+        ("fine", 300_000),
         ("frames", 1_000),
         ("streams", 3),
     ];
