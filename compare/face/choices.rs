@@ -79,7 +79,7 @@ fn odd(random: &mut Random, width: u64, fraction: u64) -> u64 {
         8 => random.one_of(&[0, smallest, infinity - 1]),
         _ => random.word() & (sign - 1),
     };
-    random.below(2) * sign | magnitude
+    (random.below(2) * sign) | magnitude
 }
 
 /// A level between 0.001 and 1, small ones more often.

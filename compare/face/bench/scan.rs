@@ -1,6 +1,6 @@
 //! The scan: a counted frame, its roots, far and near pushes.
 
-use crate::bench::{least, nanoseconds, told, Times};
+use crate::bench::times::{least, nanoseconds, told, Times};
 use crate::choices;
 use crate::coarse::CoarseScan;
 use crate::face;

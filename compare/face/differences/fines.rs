@@ -1,6 +1,6 @@
 //! Inputs to the fine stage.
 
-use super::{panics, refused, Difference, ASSERTED};
+use super::told::{panics, refused, Difference, ASSERTED};
 use crate::delay::{DelayEstimator, WindowSupport};
 use crate::face::fine as face;
 use crate::fines::world::World;

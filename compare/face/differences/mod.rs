@@ -3,25 +3,11 @@
 mod fines;
 mod rings;
 mod scans;
+mod told;
 mod trackers;
 
 use crate::face;
-
-/// What is found on one side, and what the paper tells.
-type Side = (String, &'static str);
-
-/// What the Rust does with an input and what is done here.
-pub struct Difference {
-    input: &'static str,
-    rust: Side,
-    here: Side,
-}
-
-/// What the original does where only a debug assertion stands in the way.
-const ASSERTED: &str = match cfg!(debug_assertions) {
-    true => "panics",
-    false => "goes on",
-};
+use told::Difference;
 
 pub fn run() -> bool {
     // A panic of the original is an answer here, and needs no report of its own.
@@ -53,20 +39,6 @@ fn untold(difference: &Difference) -> usize {
         found != told
     });
     wrong.count()
-}
-
-fn refused(number: u32) -> String {
-    match number {
-        0..=15 => format!("refuses with {number}"),
-        _ => format!("answers {number}"),
-    }
-}
-
-fn panics<T>(work: impl FnOnce() -> T) -> String {
-    match std::panic::catch_unwind(std::panic::AssertUnwindSafe(work)) {
-        Ok(_) => "goes on".to_string(),
-        Err(_) => "panics".to_string(),
-    }
 }
 
 fn root() -> Difference {

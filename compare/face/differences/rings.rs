@@ -1,6 +1,6 @@
 //! Inputs to the ring.
 
-use super::{panics, refused, Difference};
+use super::told::{panics, refused, Difference};
 use crate::face::ring as face;
 use crate::ring::ReferenceRing;
 use crate::rules::LIMIT;

@@ -1,6 +1,6 @@
 //! Inputs to the scan.
 
-use super::{panics, refused, Difference, ASSERTED};
+use super::told::{panics, refused, Difference, ASSERTED};
 use crate::coarse::CoarseScan;
 use crate::face::scan as face;
 use crate::scans::beside;

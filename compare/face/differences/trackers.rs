@@ -1,6 +1,6 @@
 //! Inputs to the tracker.
 
-use super::{refused, Difference};
+use super::told::{refused, Difference};
 use crate::face::tracker as face;
 use crate::rules::LIMIT;
 use crate::track::{CycleOutcome, Tracker};

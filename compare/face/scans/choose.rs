@@ -7,13 +7,16 @@ use crate::choices;
 use crate::lent::Lent;
 use crate::random::Random;
 
+pub const RATES: [u32; 14] = [
+    8000, 8499, 8500, 9499, 11025, 12000, 16000, 22050, 32000, 44100, 48000, 88200, 96000, 192000,
+];
 const CEILINGS: [u32; 12] = [1, 2, 3, 5, 7, 8, 9, 12, 16, 20, 31, 40];
 
 /// A new scan of some rate and ceiling. Spans are small mostly, so that many frames are scored in the time.
 pub fn world(random: &mut Random) -> World {
     let rate = match random.below(3) {
         0 => random.between(8000, 192_000) as u32,
-        _ => random.one_of(&super::RATES),
+        _ => random.one_of(&RATES),
     };
     let ceiling = match random.below(60) {
         0 => random.between(100, 600) as u32,

@@ -3,9 +3,10 @@
 use crate::lists::Lists;
 use crate::random::Random;
 use crate::scans::calls::{frame_answer, observe};
+use crate::scans::choose::RATES;
 use crate::scans::shape::OBSERVED;
 use crate::scans::world::World;
-use crate::scans::{beside, teleport, RATES};
+use crate::scans::{beside, teleport};
 
 const CEILINGS: [u32; 12] = [1, 2, 7, 8, 9, 20, 31, 64, 120, 250, 300, 500];
 /// Naming an answer asks the original several times, so only some frames are named.

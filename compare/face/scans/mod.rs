@@ -19,10 +19,6 @@ use crate::trial::{Subject, Tried};
 use shape::{Call, List};
 use world::World;
 
-pub const RATES: [u32; 14] = [
-    8000, 8499, 8500, 9499, 11025, 12000, 16000, 22050, 32000, 44100, 48000, 88200, 96000, 192000,
-];
-
 pub struct Scan {
     original: CoarseScan,
     /// The rate and ceiling that the original was made for.
