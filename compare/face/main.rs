@@ -26,6 +26,7 @@ mod differences;
 mod face;
 mod fines;
 mod floats;
+mod lengths;
 mod lent;
 mod lists;
 mod rings;
@@ -71,7 +72,7 @@ fn one(what: &str, seed: u64, count: u64) -> bool {
         "fine" => course::run::<fines::Fine>(seed, count),
         "frames" => scans::frames::run(seed, count),
         "streams" => scans::streams::run(seed, count),
-        "lengths" => floats::lengths(seed, count),
+        "lengths" => lengths::run(seed, count),
         _ => usage(),
     }
 }

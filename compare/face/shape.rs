@@ -21,7 +21,7 @@ pub trait Call: Copy + 'static {
 
     fn shape(&self) -> Shape<Self::List>;
 
-    /// A making does not look at what the words held.
+    /// A making, which is called `new` in every part, does not look at what the words held.
     fn is_making(&self) -> bool {
         self.shape().name == "new"
     }
