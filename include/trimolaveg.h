@@ -13,7 +13,9 @@
  *   - An answer that has values writes them into `values`, whose length must be what the call says, whichever answer comes. An answer without
  *     values leaves them.
  *
- * Refusals, in the order in which they are judged: the length of the state and of the values (2), then 1, 2, 3, then 6 or 7, then 5, then 4.
+ * Refusals, in the order in which they are judged: 1, 2, 3, then 6 or 7, then 5, then 4. A making judges the rate, ceiling or span that it is given (1), then the
+ * length of the state (2). A call on a state reads these from it, so that the length of the state comes first (2); then the state's own rate, ceiling or span (1); then
+ * the length of the values (2); then the buffers (2) and the rest.
  * Each call below says which of them it can give and for what. TMV_OUTSIDE_TABLE is also the answer of every call on a state whose own rate, ceiling
  * or span is outside the table, and TMV_BROKEN_STATE of every call on a state that breaks one of its rules.
  *
@@ -196,7 +198,7 @@ uint32_t tmv_ring_dropped(const uint64_t *state, size_t state_len, const uint32_
  * frame; 12 is at most the frame; 15 times D is below 2^62; 16 is below 4; 16 to 18 are below 2^32; flags are 0 or 1; where 19 or 23 is 1, 12 and 14 are 0.
  * Without a region 20 and 21 are left as they are.
  *
- * Every call but a run of near samples refuses: 2 a state of other than 24 words, or values of another length than it says; 1 a rate or ceiling outside the table; 2 a buffer
+ * Every call refuses: 2 a state of other than 24 words (a making after 1); 1 a rate or ceiling outside the table; 2 values of another length than it says, or a buffer
  * that is not of the length that rate and ceiling give (below); 3 a broken rule. */
 
 uint64_t tmv_scan_words(void);
@@ -227,18 +229,12 @@ uint32_t tmv_scan_push_far(uint64_t *state, size_t state_len, float *envelope, s
  * A finished scan ignores any sample with any index. */
 uint32_t tmv_scan_push_near(uint64_t *state, size_t state_len, float *levels, size_t levels_len, float sample, uint64_t index);
 
-/* Near samples of consecutive far indices, from `first` on, in one call: each is taken, dropped or ignored as tmv_scan_push_near would, up to the first one that
- * it would refuse or that would fill the frame. values: 1 word, how many samples were gone through; the next one, if there is one, is then pushed by itself, which says what
- * it is. The call itself refuses only 2, a state of other than 24 words or values of other than 1; where anything else is wrong it answers TMV_DONE, and that 0 samples
- * were gone through. Then nothing but the value is written. So a host never calls it twice for the same sample: after a run it pushes the next sample by tmv_scan_push_near, which
- * gives the refusal number, or says that the frame is full. */
-uint32_t tmv_scan_push_near_run(uint64_t *state, size_t state_len, float *levels, size_t levels_len, const float *samples, size_t samples_len, uint64_t first, uint64_t *values, size_t values_len);
-
 /* Scores the full near frame, and consumes it. values: 2 words. Refuses also: 7 if no frame is full; 4 if a near level, a written bin of the window or a lag sum
  * is not finite (not asked where the frame is uncovered or ahead). Window, prefixes and scores need not be kept between calls. */
 uint32_t tmv_scan_observe(uint64_t *state, size_t state_len, const float *envelope, size_t envelope_len, const float *levels, size_t levels_len, float *window, size_t window_len, double *prefix, size_t prefix_len, double *squares, size_t squares_len, double *scores, size_t scores_len, double *lag_sums, size_t lag_sums_len, uint64_t *values, size_t values_len);
 
-/* Reports. values: 1 word each; 2 for the region. The correlation is an f32 pattern: the region's if there is one, else the last frame's peak. */
+/* Reports. values: 1 word each; 2 for the region. The correlation is an f32 pattern: the region's if there is one, else the last frame's peak. A NaN that a caller put
+ * into word 21, or into word 18 where there is no region, is told as it stands there; a region's, narrowed, is 0x7FC00000. */
 uint32_t tmv_scan_bin_samples(const uint64_t *state, size_t state_len, uint64_t *values, size_t values_len);
 uint32_t tmv_scan_ceiling_samples(const uint64_t *state, size_t state_len, uint64_t *values, size_t values_len);
 uint32_t tmv_scan_frames(const uint64_t *state, size_t state_len, uint64_t *values, size_t values_len);
@@ -258,7 +254,7 @@ uint32_t tmv_scan_exhausted(const uint64_t *state, size_t state_len);
  *    8 scans in all    9 the last scan's ratio (f64)    10 flag: there was a scan    11 its peak's position    12 its origin
  * Rules: 1 and 2 follow from 0; 3 is below 2^62; 4 is at most the frame; 6 and 7 are below 2^32; flags are 0 or 1. Before the first scan 11 is left as it is.
  *
- * Every call refuses: 2 a state of other than 13 words, or values of another length than it says; 1 a span outside the table; 2 a buffer of another length
+ * Every call refuses: 2 a state of other than 13 words (a making after 1); 1 a span outside the table; 2 values of another length than it says, or a buffer of another length
  * than the span gives; 3 a broken rule. */
 
 uint64_t tmv_fine_words(void);

@@ -1,8 +1,9 @@
 """Holds docs/PROMISES.md and docs/DETERMINED.md to the tree, so that the papers cannot drift from it.
 
-Every name in the tables of PROMISES.md must be there: `crate: \\`name\\`` in that crate's specs, src, proofs or must-fail edits, `file:line: \\`name\\`` in that line.
+Every name in the tables of PROMISES.md must be declared where the table says: `crate: \\`name\\`` as a definition, function or theorem of that crate, or as one of its wrong
+programs; that a comment or an import mentions it is not enough. `crates/..: \\`name\\`` must be declared in that file.
 DETERMINED.md lists each public call with the theorems that its contract admits one result; `promises.py --write` writes it anew.
-Every call of that list has two wrong bodies in tests/wrong, which tests/wrong/try tries.
+Every call of that list has two wrong bodies, which tests/wrong/try or `rt ci` tries.
 """
 
 import pathlib
@@ -12,26 +13,41 @@ import sys
 ROOT = pathlib.Path(__file__).resolve().parent.parent
 CRATES = ROOT / "crates"
 # The crates whose calls a host makes.
-CALLED = ["floats", "ring", "tracker", "scan", "blocks", "runs", "scoring", "fine", "gates", "peaks", "lines", "recording", "replay", "trimolaveg"]
+CALLED = ["floats", "ring", "tracker", "scan_calls", "scan_push", "scan_runs", "scan_score", "fine", "fine_gate", "fine_peak", "log_lines", "recording", "replay", "trimolaveg"]
 # Public only for the crates above them; a host calls none of these. Each is pinned by an equation in its contract all the same.
 INNER = {
-    "scan": ["clearing.rt", "parts.rt", "restart.rt", "rules.rt"],
-    "blocks": ["far.rt", "level.rt", "near.rt"],
-    "scoring": ["refusal.rt", "window.rt"],
+    "scan_calls": ["clearing.rt", "parts.rt", "restart.rt", "rules.rt"],
+    "scan_push": ["far.rt", "level.rt", "near.rt"],
+    "scan_score": ["refusal.rt", "window.rt"],
     "fine": ["of", "with_frames"],
+    "trimolaveg": ["judging.rt"],
     "replay": ["events.rt", "starting.rt", "words.rt"],
 }
 
 
 def names_of(crate):
-    """Every identifier in a crate, and its must-fail edits and files."""
-    found = set()
+    """Every name that a crate declares: definitions, theorems, fields and cases, functions, types and constants, its pages, and its wrong programs."""
+    found = {path.stem for path in wrong_programs(crate)}
     for path in (CRATES / crate).rglob("*"):
-        if path.suffix in (".rt", ".antt"):
-            found.update(re.findall(r"[\w«»'-]+", path.read_text()))
-        if path.suffix in (".rt", ".antt", ".edit"):
+        if path.suffix == ".antt":
             found.add(path.stem)
+            found.update(re.findall(r"^ *(?:(?:pub|abbrev|unfoldable|record|data) +)*(?:record |data )?([^\s(){}:=]+)(?: +:| +\(.*\) :)", path.read_text(), re.M))
+        if path.suffix == ".rt":
+            found.add(path.stem)
+            found.update(re.findall(r"\b(?:fn|struct|enum|const|mod) (\w+)", path.read_text()))
+            found.update(re.findall(r"^    (?:pub )?([A-Za-z_]\w*)(?:\(.*\)|: .*)?,", path.read_text(), re.M))
     return {name.strip("«»") for name in found}
+
+
+def wrong_programs(crate):
+    """The wrong programs of a crate: those that `rt ci` tries, and those that tests/wrong/try does."""
+    return sorted((CRATES / crate / "must-fail").glob("*.edit")) + sorted((ROOT / "tests" / "wrong" / crate).glob("*.edit"))
+
+
+def declares(text, name):
+    """Whether a file declares a name: a function, type, constant, a case of an enum with what it holds, or a definition."""
+    plain = re.escape(name)
+    return re.search(rf"\b(?:fn|struct|enum|const) {plain}\b|^ +{plain},|^(?:\w+ )*{plain} :", text, re.M) is not None
 
 
 def known_crates():
@@ -47,14 +63,14 @@ def missing_names(text, crates):
         if not line.startswith("|"):
             default = None
             continue
-        for cell in line.strip("|").split(" | "):
-            crate = default
-            for token in re.finditer(r"(crates/[\w/.]+):(\d+): `([^`]+)`|\b(\w+)(?=: )|`([^`]+)`", cell):
-                path, at, there, word, name = token.groups()
+        for place, cell in enumerate(line.strip("|").split(" | ")):
+            # the first cell is the sentence itself; only the row of headings says there which crate the rows below mean
+            crate = default if place else None
+            for token in re.finditer(r"(crates/[\w/.]+): `([^`]+)`|\b(\w+)(?=: )|`([^`]+)`", cell):
+                path, there, word, name = token.groups()
                 if path:
-                    lines = (ROOT / path).read_text().splitlines() if (ROOT / path).exists() else []
-                    if int(at) > len(lines) or there not in lines[int(at) - 1]:
-                        yield f"PROMISES.md:{number}: `{there}` is not in line {at} of {path}"
+                    if not (ROOT / path).exists() or not declares((ROOT / path).read_text(), there):
+                        yield f"PROMISES.md:{number}: {path} does not declare `{there}`"
                 elif word in crates:
                     crate = word
                     if "(" + word + ": " in cell and "Definition" in cell:
@@ -80,13 +96,13 @@ def public_calls(crate):
 
 def plain(call, path):
     """A call's name in its theorems: for the C face without the prefix."""
-    part = path.stem.removesuffix("_calls")
+    part = path.stem.removesuffix("_face")
     return call.removeprefix("tmv_").removeprefix(part + "_").replace("_", "-")
 
 
 def theorems(crate, call, path):
     """The theorems about a call: in Determined, or, for the C face, in the module of the call's part. A theorem is about the call with the longest name that begins it."""
-    part = path.stem.removesuffix("_calls")
+    part = path.stem.removesuffix("_face")
     file = CRATES / crate / "proofs" / ("Determined.antt" if part == path.stem else part.capitalize() + "Determined.antt")
     known = re.findall(r"^pub ([\w-]+-once) :", file.read_text(), re.M) if file.exists() else []
     names = [plain(other, there) for other, there in public_calls(crate) if there == path]
@@ -102,6 +118,9 @@ def determined(crates):
         "",
         "Each public call's contract admits one result, and one list in each lent buffer. The theorems stand in `proofs/Determined.antt` of the call's crate; each is",
         "about the contract alone, so it fails when somebody weakens an `ensures`. This page is written by `tests/promises.py --write` and held to the tree by `./test`.",
+        "",
+        "One thing no contract here can tell: which of the NaN patterns stands in a lent float buffer. The logic has one NaN, so that an element which stays a NaN is fixed up to its payload. No call",
+        "writes a NaN; `compare/face` holds every lent buffer to its bits, with signalling and payload NaNs in all of them (docs/DECISIONS.md says what it would cost to have this in the contracts).",
         "",
         "| Call | Theorems |",
         "|---|---|",
@@ -119,26 +138,20 @@ def determined(crates):
     return "\n".join(lines) + "\n", left_out
 
 
-def wrong_bodies(crate, which):
-    """The wrong bodies in a file of tests/wrong, as (module and call, what it does). A method's type is left out."""
-    file = ROOT / "tests" / "wrong" / crate / which
-    for name, says in re.findall(r"^# ([\w:]+?)(?: < [\w:]+)?: (.*)", file.read_text() if file.exists() else "", re.M):
-        parts = [part for part in name.split("::") if part[0].islower()]
-        yield "::".join(parts if len(parts) > 1 else ["lib"] + parts), says
+def called_by(path):
+    """The call that a wrong program is a body of, as module::call without a method's type, or None."""
+    said = re.search(r"^call: ([\w:]+)$", path.read_text(), re.M)
+    parts = [part for part in said[1].split("::") if part[0].islower()] if said else []
+    return "::".join(parts if len(parts) > 1 else ["lib"] + parts) if said else None
 
 
 def missing_wrong_bodies(crates):
-    """The calls that have no wrong body in one of the two files of their crate, and what of these files docs/WRONG.md does not show as refused."""
-    page = (ROOT / "docs" / "WRONG.md").read_text()
+    """The calls that have fewer than two wrong bodies, and the wrong bodies of what is no public call."""
     for crate in CALLED:
         calls = [f"{path.stem}::{call}" for call, path in public_calls(crate)] if crate in crates else []
-        for which in ("first", "second"):
-            file = f"tests/wrong/{crate}/{which}"
-            have = dict(wrong_bodies(crate, which))
-            yield from (f"{file} has no wrong body of {call}" for call in calls if call not in have)
-            yield from (f"{file}: {call} is no public call" for call in have if call not in calls)
-            unseen = [call for call, says in have.items() if not re.search(rf"{re.escape(says)} \| `[^`]", page)]
-            yield from (f"{file}: docs/WRONG.md does not show that {call} is refused: run tests/wrong/try --write {crate}" for call in unseen)
+        have = [call for call in map(called_by, wrong_programs(crate)) if call]
+        yield from (f"{crate}: {call} has {have.count(call)} wrong bodies, and two are owed" for call in calls if have.count(call) < 2)
+        yield from (f"{crate}: a wrong program's 'call: {call}' names no public call" for call in sorted(set(have) - set(calls)))
 
 
 def main():
@@ -154,7 +167,8 @@ def main():
         wrong.append("docs/DETERMINED.md is not what the tree gives: run tests/promises.py --write")
     for line in wrong:
         print(f"promises: {line}")
-    print(f"promises: {page.count(chr(10)) - 7} calls determined, {len(wrong)} things wrong")
+    calls = len(re.findall(r"^\| \w+: ", page, re.M))
+    print(f"promises: {calls} calls determined, {len(wrong)} things wrong")
     sys.exit(1 if wrong else 0)
 
 

@@ -60,7 +60,6 @@ pub mod scan {
         discard_near = tmv_scan_discard_near(state: write u64, lag_sums: write f64) -> u32;
         push_far = tmv_scan_push_far(state: write u64, envelope: write f32, samples: read f32) -> u32;
         push_near = tmv_scan_push_near(state: write u64, levels: write f32, sample: number f32, index: number u64) -> u32;
-        push_near_run = tmv_scan_push_near_run(state: write u64, levels: write f32, samples: read f32, first: number u64, values: write u64) -> u32;
         observe = tmv_scan_observe(state: write u64, envelope: read f32, levels: read f32, window: write f32, prefix: write f64, squares: write f64, scores: write f64, lag_sums: write f64, values: write u64) -> u32;
         bin_samples = tmv_scan_bin_samples(state: read u64, values: write u64) -> u32;
         ceiling_samples = tmv_scan_ceiling_samples(state: read u64, values: write u64) -> u32;

@@ -2,8 +2,17 @@
 
 const GUARDS: usize = 8;
 
+/// What the elements of a list stand for.
+#[derive(Clone, Copy, PartialEq, Eq)]
+pub enum Kind {
+    Words,
+    Singles,
+    Doubles,
+}
+
 /// What a lent buffer is made of.
 pub trait Plain: Copy {
+    const KIND: Kind;
     /// Stands on both sides of a buffer: a pattern that no call writes by chance.
     const GUARD: Self;
     fn bits(self) -> u64;
@@ -11,6 +20,7 @@ pub trait Plain: Copy {
 }
 
 impl Plain for u64 {
+    const KIND: Kind = Kind::Words;
     const GUARD: u64 = 0xa5c3_5a3c_96e1_7b2d;
     fn bits(self) -> u64 {
         self
@@ -20,7 +30,9 @@ impl Plain for u64 {
     }
 }
 
+/// The ring's samples go over as the patterns of f32.
 impl Plain for u32 {
+    const KIND: Kind = Kind::Singles;
     const GUARD: u32 = 0xa5c3_5a3c;
     fn bits(self) -> u64 {
         self as u64
@@ -31,6 +43,7 @@ impl Plain for u32 {
 }
 
 impl Plain for f32 {
+    const KIND: Kind = Kind::Singles;
     const GUARD: f32 = f32::from_bits(0xa5c3_5a3c);
     fn bits(self) -> u64 {
         self.to_bits() as u64
@@ -41,6 +54,7 @@ impl Plain for f32 {
 }
 
 impl Plain for f64 {
+    const KIND: Kind = Kind::Doubles;
     const GUARD: f64 = f64::from_bits(0xa5c3_5a3c_96e1_7b2d);
     fn bits(self) -> u64 {
         self.to_bits()
@@ -98,10 +112,21 @@ impl<T: Plain> Lent<T> {
         &self.before[GUARDS..GUARDS + self.due]
     }
 
+    /// What the call was lent when the buffer was last kept.
+    pub fn lent_before(&self) -> &[T] {
+        &self.before[GUARDS..GUARDS + self.given]
+    }
+
     /// What is lent is this, bit for bit, and what is not lent is as it was.
     pub fn holds(&self, expected: &[T]) -> bool {
         let rest = GUARDS + self.given;
         same(self.lent(), expected) && same(&self.cells[rest..], &self.before[rest..])
+    }
+
+    /// It begins with this, bit for bit, and holds behind it what it held before.
+    pub fn begins(&self, head: &[T]) -> bool {
+        let (begun, rest) = self.all().split_at(head.len());
+        same(begun, head) && same(rest, &self.before()[head.len()..])
     }
 }
 
@@ -115,8 +140,20 @@ fn bytes<T: Plain>(list: &[T]) -> &[u8] {
     unsafe { std::slice::from_raw_parts(list.as_ptr().cast(), std::mem::size_of_val(list)) }
 }
 
+/// A NaN that says more than that it is one: it signals, or it carries a payload.
+fn is_payload(kind: Kind, bits: u64) -> bool {
+    let (all_but_sign, infinity, quiet) = match kind {
+        Kind::Words => return false,
+        Kind::Singles => (u32::MAX as u64 >> 1, 0x7f80_0000, 0x7fc0_0000),
+        Kind::Doubles => (u64::MAX >> 1, 0x7ff << 52, 0xfff << 51),
+    };
+    let magnitude = bits & all_but_sign;
+    magnitude > infinity && magnitude != quiet
+}
+
 /// A lent buffer of any element type.
 pub trait Buffer {
+    fn kind(&self) -> Kind;
     fn due(&self) -> usize;
     fn given(&self) -> usize;
     /// Lends this many elements from the next call on. More than are due come out of the guards behind.
@@ -127,11 +164,17 @@ pub trait Buffer {
     fn intact(&self) -> bool;
     /// Whether nothing was written since `keep`, guards counted.
     fn unchanged(&self) -> bool;
+    /// Whether a NaN that signals or carries a payload is lent.
+    fn has_payload(&self) -> bool;
     fn bits(&self, at: usize) -> u64;
     fn set_bits(&mut self, at: usize, bits: u64);
 }
 
 impl<T: Plain> Buffer for Lent<T> {
+    fn kind(&self) -> Kind {
+        T::KIND
+    }
+
     fn due(&self) -> usize {
         self.due
     }
@@ -158,6 +201,11 @@ impl<T: Plain> Buffer for Lent<T> {
 
     fn unchanged(&self) -> bool {
         same(&self.cells, &self.before)
+    }
+
+    fn has_payload(&self) -> bool {
+        let payload = |found: bool, cell: &T| found | is_payload(T::KIND, cell.bits());
+        self.lent().iter().fold(false, payload)
     }
 
     fn bits(&self, at: usize) -> u64 {

@@ -19,21 +19,27 @@ mod ring;
 mod track;
 
 mod bench;
+mod changes;
 mod choices;
+mod course;
 mod differences;
 mod face;
 mod fines;
 mod floats;
+mod lengths;
 mod lent;
+mod lists;
 mod rings;
 mod rules;
 mod scans;
+mod shape;
 mod tally;
 mod trackers;
+mod trial;
 
 const USAGE: &str = "\
 face floats SEED COUNT    square root, narrowing, finite tests and absolute value against the hardware, COUNT patterns each
-face ring SEED CALLS      every call in random order with random damage; so for tracker, scan and fine
+face ring SEED CALLS      the named cases, then every call in random order with random damage; so for tracker, scan and fine
 face frames SEED COUNT    frames to be scored, bit for bit
 face streams SEED SCANS   whole streams from samples
 face lengths SEED COUNT   the lengths by rate and ceiling or span
@@ -60,13 +66,13 @@ fn main() {
 fn one(what: &str, seed: u64, count: u64) -> bool {
     match what {
         "floats" => floats::run(seed, count),
-        "ring" => rings::run(seed, count),
-        "tracker" => trackers::run(seed, count),
-        "scan" => scans::run(seed, count),
-        "fine" => fines::run(seed, count),
+        "ring" => course::run::<rings::Ring>(seed, count),
+        "tracker" => course::run::<trackers::Follower>(seed, count),
+        "scan" => course::run::<scans::Scan>(seed, count),
+        "fine" => course::run::<fines::Fine>(seed, count),
         "frames" => scans::frames::run(seed, count),
         "streams" => scans::streams::run(seed, count),
-        "lengths" => floats::lengths(seed, count),
+        "lengths" => lengths::run(seed, count),
         _ => usage(),
     }
 }
@@ -77,8 +83,8 @@ fn short(seed: u64) -> bool {
         ("lengths", 100_000),
         ("ring", 300_000),
         ("tracker", 300_000),
-        ("scan", 150_000),
-        ("fine", 60_000),
+        ("scan", 300_000),
+        ("fine", 300_000),
         ("frames", 1_000),
         ("streams", 3),
     ];

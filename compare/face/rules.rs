@@ -11,6 +11,31 @@ pub const TOO_LARGE: u32 = 5;
 pub const FRAME_WAITS: u32 = 6;
 pub const NO_FULL_FRAME: u32 = 7;
 
+/// Nothing stands against the call, or the number that it is to be refused with.
+pub type Judged = Result<(), u32>;
+
+pub fn require(holds: bool, number: u32) -> Judged {
+    if holds {
+        Ok(())
+    } else {
+        Err(number)
+    }
+}
+
+/// How the judging of a making begins: the setting it is given, then the length of the state.
+pub fn judged_making(allowed: bool, state_fits: bool) -> Judged {
+    require(allowed, OUTSIDE_TABLE)?;
+    require(state_fits, WRONG_LENGTH)
+}
+
+/// How the judging of a call on a state begins. A state of another length has no setting that could be read; of one that fits, the setting
+/// comes before the length of any other list.
+pub fn judged(state_fits: bool, allowed: impl FnOnce() -> bool, values_fit: bool) -> Judged {
+    require(state_fits, WRONG_LENGTH)?;
+    require(allowed(), OUTSIDE_TABLE)?;
+    require(values_fit, WRONG_LENGTH)
+}
+
 pub fn allowed_rate(rate: u64) -> bool {
     (8_000..=192_000).contains(&rate)
 }
@@ -51,6 +76,11 @@ pub fn all_finite64(list: &[f64]) -> bool {
 /// Milliseconds at a rate, rounded down, at least 1.
 pub fn per_ms(ms: u64, rate: u64) -> u64 {
     (ms * rate / 1000).max(1)
+}
+
+/// "Tracker cycles": the distances of a tracker at an allowed rate: late, early, agreement, apart, lead.
+pub fn bands(rate: u64) -> [u64; 5] {
+    [4, 48, 24, 100, 8].map(|ms| per_ms(ms, rate))
 }
 
 /// "Bins and blocks": what follows from an allowed rate and ceiling.

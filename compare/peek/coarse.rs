@@ -222,16 +222,21 @@ impl CoarseScan {
         self.exhausted = fields.exhausted;
     }
 
-    /// Every buffer: the levels and the sums as `levels` and `sums` give them.
+    /// Every buffer: the levels and the sums as `levels` and `sums` give them. One of another length than the original's is left out.
     pub(crate) fn set_buffers(&mut self, levels: [&[f32]; 3], sums: [&[f64]; 4]) {
-        self.far_env.copy_from_slice(levels[0]);
+        fn put<T: Copy>(own: &mut [T], given: &[T]) {
+            if own.len() == given.len() {
+                own.copy_from_slice(given);
+            }
+        }
+        put(&mut self.far_env, levels[0]);
         self.near_env.clear();
         self.near_env.extend_from_slice(levels[1]);
-        self.window.copy_from_slice(levels[2]);
-        self.prefix_sum.copy_from_slice(sums[0]);
-        self.prefix_sq.copy_from_slice(sums[1]);
-        self.corr.copy_from_slice(sums[2]);
-        self.corr_avg.copy_from_slice(sums[3]);
+        put(&mut self.window, levels[2]);
+        put(&mut self.prefix_sum, sums[0]);
+        put(&mut self.prefix_sq, sums[1]);
+        put(&mut self.corr, sums[2]);
+        put(&mut self.corr_avg, sums[3]);
     }
 
     pub(crate) fn set_far_level(&mut self, slot: usize, level: f32) {

@@ -1,16 +1,13 @@
 #!/usr/bin/env bash
-# The archive that firmware links: proves and writes it, builds the programs of examples/ over it, runs them and compares what they print;
+# The archive that firmware links, for the processor of this machine (tools/archive): proves and writes it, builds the programs of examples/ over it, runs them and compares what they print;
 # then, where the Rust original is at hand, holds the whole face beside it in a short run. ARCHIVE names an archive to take instead, as compare/build has it.
 set -eu
 cd "$(dirname "$0")/../.."
-left_out() { echo "examples: left out, $1"; exit 0; }
 
-mkdir -p target
 archive=${ARCHIVE:-}
 if [ -z "$archive" ]; then
-  [ "$(uname -m)" = x86_64 ] || left_out "the archive is for x86-64 and this machine is $(uname -m); ARCHIVE may name one that was compiled for it"
-  rt staticlib trimolaveg > target/staticlib.log 2>&1 || { tail -n 40 target/staticlib.log >&2; exit 1; }
-  archive=target/staticlib/libtrimolaveg.a
+  tools/archive
+  archive=target/archive/$(uname -m)/libtrimolaveg.a
 fi
 built=target/examples
 mkdir -p "$built"

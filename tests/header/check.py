@@ -7,7 +7,7 @@ import sys
 HEADER = pathlib.Path("include/trimolaveg.h")
 FACE = "crates/trimolaveg/src"
 # Where an answer's case gets its number.
-NUMBERING = [FACE, "crates/scan_words/src", "crates/tracker_words/src", "crates/fine_words/src"]
+NUMBERING = [FACE, "crates/ring_words/src", "crates/scan_words/src", "crates/tracker_words/src", "crates/fine_words/src"]
 REFUSALS = "crates/answers/src"
 
 C_TYPES = {"u32": "uint32_t", "u64": "uint64_t", "f32": "float", "f64": "double"}
@@ -78,12 +78,13 @@ def main():
 
     named = constants(header)
     face = sources(FACE)
-    lengths = sources("crates/scan_words/src") + face
     for name, (number, _) in named.items():
         if not name.endswith("_WORDS"):
             continue
-        body = re.search(name.lower() + r"\(\) -> u64[^{]*(?:\{[^{}]*\}[^{]*)?\{\s*(\w+)\s*\}", lengths)
-        if not body or body[1] != str(number):
+        layout = name.removeprefix("TMV_").lower()
+        words = re.search(r"pub const WORDS: usize = (\d+);", sources(f"crates/{layout}/src"))
+        answers = re.search(name.lower() + r"\(\) -> u64[^{]*(?:\{[^{}]*\}[^{]*)?\{\s*" + layout + r"::WORDS as u64\s*\}", face)
+        if not answers or not words or words[1] != str(number):
             wrong.append(f"{name} is {number}, and {name.lower()} does not answer it")
 
     refusals = dict(re.findall(r"pub const (\w+): u8 = (\d+);", sources(REFUSALS)))

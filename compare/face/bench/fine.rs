@@ -1,6 +1,6 @@
 //! The peak rule on a correlation with one peak.
 
-use crate::bench::{nanoseconds, Times};
+use crate::bench::times::{nanoseconds, Times};
 use crate::choices;
 use crate::delay::DelayEstimator;
 use crate::face;

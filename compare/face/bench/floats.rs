@@ -1,6 +1,6 @@
 //! Square root and narrowing beside the processor's own.
 
-use crate::bench::{nanoseconds, Times};
+use crate::bench::times::{nanoseconds, Times};
 use crate::face;
 use crate::random::Random;
 use std::hint::black_box;

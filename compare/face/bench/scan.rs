@@ -1,10 +1,11 @@
 //! The scan: a counted frame, its roots, far and near pushes.
 
-use crate::bench::{least, nanoseconds, told, Times};
+use crate::bench::times::{least, nanoseconds, told, Times};
 use crate::choices;
 use crate::coarse::CoarseScan;
 use crate::face;
 use crate::random::Random;
+use crate::scans::beside;
 use crate::scans::calls::observe;
 use crate::scans::world::World;
 use std::cell::RefCell;
@@ -32,7 +33,7 @@ fn waiting(rate: u32, ceiling: u32) -> World {
 pub fn frames(rate: u32, ceiling: u32, runs: usize) {
     let w = waiting(rate, ceiling);
     let given = w.state.all().to_vec();
-    let mut original = w.original();
+    let mut original = beside::original(&w);
     let near = w.levels.all().to_vec();
     let world = RefCell::new(w);
     let times = Times::take(
@@ -185,40 +186,4 @@ pub fn near_push() {
         },
     );
     times.row("near push, a sample", COUNT);
-}
-
-/// A run of one call beside as many single pushes of the Rust; eight runs, which fill no frame.
-pub fn near_run() {
-    const RUN: usize = 480;
-    const COUNT: usize = 8 * RUN;
-    let mut random = Random::new(9);
-    let samples: Vec<f32> = (0..COUNT).map(|_| choices::sample(&mut random)).collect();
-    let times = Times::take(
-        1_000,
-        || {
-            let mut w = World::new(48_000, 500);
-            let mut passed = [0];
-            nanoseconds(|| {
-                for (at, run) in samples.chunks(RUN).enumerate() {
-                    face::scan::push_near_run(
-                        w.state.lent_mut(),
-                        w.levels.lent_mut(),
-                        black_box(run),
-                        (at * RUN) as u64,
-                        &mut passed,
-                    );
-                    assert_eq!(passed, [RUN as u64]);
-                }
-            })
-        },
-        || {
-            let mut original = CoarseScan::new(48_000, 500);
-            nanoseconds(|| {
-                for (index, sample) in samples.iter().enumerate() {
-                    black_box(original.push_near(black_box(*sample), index as u64));
-                }
-            })
-        },
-    );
-    times.row("near run of 480 samples, a sample", COUNT);
 }

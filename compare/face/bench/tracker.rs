@@ -1,6 +1,6 @@
 //! A tracker's cycle: interior candidates that hold, wait, confirm and jump, with unconfident and edge cycles between.
 
-use crate::bench::{nanoseconds, Times};
+use crate::bench::times::{nanoseconds, Times};
 use crate::face;
 use crate::random::Random;
 use crate::track::{CycleOutcome, Tracker};

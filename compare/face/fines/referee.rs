@@ -1,49 +1,33 @@
-//! Which refusal is due: document 01's table, order and state rules, and what the C header says of lists and words. Nothing of the core's source.
+//! Which refusal is due: document 01's table, order and state rules, and what the C header says of lists and words. Nothing of the core's source, and of the
+//! calls only their shape.
 
-use crate::fines::calls::{Call, Part, World, WORDS};
+use super::shape::{Call, List};
+use super::world::{World, WORDS};
 use crate::rules::*;
+use crate::shape::Call as _;
 
-/// The number that is due; 0 for none.
-pub fn due(w: &World, call: &Call) -> u32 {
+pub fn due(w: &World, call: &Call) -> Judged {
     let state = w.state.lent();
-    if state.len() != WORDS {
-        return WRONG_LENGTH;
-    }
-    if call.lent().contains(&Part::Values) && w.values.lent().len() != call.values() {
-        return WRONG_LENGTH;
-    }
+    let (shape, state_fits) = (call.shape(), state.len() == WORDS);
     if let Call::New(span) = *call {
-        return if allowed_span(span as u64) {
-            0
-        } else {
-            OUTSIDE_TABLE
-        };
+        return judged_making(allowed_span(span as u64), state_fits);
     }
-    let span = state[0];
-    if !allowed_span(span) {
-        return OUTSIDE_TABLE;
-    }
-    let lengths = Lengths::of(span);
-    if !call
-        .lent()
-        .iter()
-        .all(|part| fits(w, *part, span, &lengths))
-    {
-        return WRONG_LENGTH;
-    }
-    if !keeps_rules(state, &lengths) {
-        return BROKEN_STATE;
-    }
-    later(w, call, span as usize, &lengths)
+    let values_fit = shape.values_fit(w.values.lent().len());
+    judged(state_fits, || allowed_span(state[0]), values_fit)?;
+    let lengths = Lengths::of(state[0]);
+    let fits = |list: &List| fits(w, *list, state[0], &lengths);
+    require(shape.lent.iter().all(fits), WRONG_LENGTH)?;
+    require(keeps_rules(state, &lengths), BROKEN_STATE)?;
+    later(w, call, &lengths)
 }
 
-fn fits(w: &World, part: Part, span: u64, lengths: &Lengths) -> bool {
-    match part {
-        Part::State | Part::Values => true,
-        Part::Near => w.near.lent().len() as u64 == lengths.frame,
-        Part::Retained => w.retained.lent().len() as u64 == lengths.frame,
-        Part::Far => w.far.lent().len() as u64 == lengths.window,
-        Part::Correlation => w.correlation.lent().len() as u64 > span,
+fn fits(w: &World, list: List, span: u64, lengths: &Lengths) -> bool {
+    match list {
+        List::State | List::Values => true,
+        List::Near => w.near.lent().len() as u64 == lengths.frame,
+        List::Retained => w.retained.lent().len() as u64 == lengths.frame,
+        List::Far => w.far.lent().len() as u64 == lengths.window,
+        List::Correlation => w.correlation.lent().len() as u64 > span,
     }
 }
 
@@ -59,26 +43,32 @@ fn keeps_rules(state: &[u64], lengths: &Lengths) -> bool {
         && is_flag(state[10])
 }
 
-fn later(w: &World, call: &Call, span: usize, lengths: &Lengths) -> u32 {
+fn later(w: &World, call: &Call, lengths: &Lengths) -> Judged {
     let full = w.word(4) == lengths.frame;
     let skips = |head: u64, tail: u64| head > 0 || tail > lengths.frame / 4;
-    let refuse = |wrong: bool, number: u32| if wrong { number } else { 0 };
+    let finite = |read: &[f32]| require(all_finite32(read), NOT_FINITE);
     match *call {
-        Call::Relocate(origin) => refuse(origin >= LIMIT, TOO_LARGE),
-        Call::PushNear(_) if full => FRAME_WAITS,
-        Call::PushNear(sample) => refuse(!finite32(sample.to_bits()), NOT_FINITE),
-        Call::Gate { .. } if !full => NO_FULL_FRAME,
+        Call::Relocate(origin) => require(origin < LIMIT, TOO_LARGE),
+        Call::PushNear(sample) => {
+            require(!full, FRAME_WAITS)?;
+            finite(&[sample])
+        }
         Call::Gate { head, tail } => {
-            let finite =
-                skips(head, tail) || all_finite32(w.near.lent()) && all_finite32(w.far.lent());
-            refuse(!finite, NOT_FINITE)
+            require(full, NO_FULL_FRAME)?;
+            if skips(head, tail) {
+                return Ok(());
+            }
+            finite(w.near.lent())?;
+            finite(w.far.lent())
         }
         Call::Rescan { head, tail } => {
-            let reads = w.word(5) == 1 && !skips(head, tail);
-            let finite = !reads || all_finite32(w.retained.lent()) && all_finite32(w.far.lent());
-            refuse(!finite, NOT_FINITE)
+            if w.word(5) == 0 || skips(head, tail) {
+                return Ok(());
+            }
+            finite(w.retained.lent())?;
+            finite(w.far.lent())
         }
-        Call::Peak => refuse(!all_finite32(&w.correlation.lent()[..=span]), NOT_FINITE),
-        _ => 0,
+        Call::Peak => finite(&w.correlation.lent()[..=w.word(0) as usize]),
+        _ => Ok(()),
     }
 }

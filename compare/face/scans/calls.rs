@@ -1,178 +1,33 @@
-//! The calls of a scan: what each is lent, what the face answers, and what the original does.
+//! The calls of a scan, made: what the face answers, and what the original does.
 
+use super::shape::Call;
+use super::world::World;
 use crate::coarse::{CoarseScan, FrameAnswer};
 use crate::face::scan as face;
-use crate::scans::referee::Near;
-use crate::scans::world::{Part, World};
+use crate::floats::narrowed;
 
-#[derive(Clone, Copy, PartialEq, Debug)]
-pub enum Call {
-    New { rate: u32, ceiling: u32 },
-    Reset,
-    Rearm,
-    DiscardNear,
-    PushFar,
-    PushNear { sample: f32, index: u64 },
-    PushNearRun { first: u64 },
-    Observe,
-    BinSamples,
-    CeilingSamples,
-    Frames,
-    Correlation,
-    Region,
-    BeyondCeiling,
-    Finished,
-    Exhausted,
-}
-
-pub const NAMES: [&str; 16] = [
-    "new",
-    "reset",
-    "rearm",
-    "discard_near",
-    "push_far",
-    "push_near",
-    "push_near_run",
-    "observe",
-    "bin_samples",
-    "ceiling_samples",
-    "frames",
-    "correlation",
-    "region",
-    "beyond_ceiling",
-    "finished",
-    "exhausted",
-];
-
-pub const OBSERVED: [Part; 9] = [
-    Part::State,
-    Part::Envelope,
-    Part::Levels,
-    Part::Window,
-    Part::Prefix,
-    Part::Squares,
-    Part::Scores,
-    Part::LagSums,
-    Part::Values,
-];
-
-impl Call {
-    /// Its place in `NAMES`.
-    pub fn name(&self) -> usize {
-        match self {
-            Call::New { .. } => 0,
-            Call::Reset => 1,
-            Call::Rearm => 2,
-            Call::DiscardNear => 3,
-            Call::PushFar => 4,
-            Call::PushNear { .. } => 5,
-            Call::PushNearRun { .. } => 6,
-            Call::Observe => 7,
-            Call::BinSamples => 8,
-            Call::CeilingSamples => 9,
-            Call::Frames => 10,
-            Call::Correlation => 11,
-            Call::Region => 12,
-            Call::BeyondCeiling => 13,
-            Call::Finished => 14,
-            Call::Exhausted => 15,
+/// Calls the face.
+pub fn face(w: &mut World, call: &Call) -> u32 {
+    let (state, values) = (w.state.lent_mut(), w.values.lent_mut());
+    let (envelope, lag_sums) = (w.envelope.lent_mut(), w.lag_sums.lent_mut());
+    match *call {
+        Call::New { rate, ceiling } => face::new(state, envelope, lag_sums, rate, ceiling),
+        Call::Reset => face::reset(state, envelope, lag_sums),
+        Call::Rearm => face::rearm(state, lag_sums),
+        Call::DiscardNear => face::discard_near(state, lag_sums),
+        Call::PushFar => face::push_far(state, envelope, w.samples.lent()),
+        Call::PushNear { sample, index } => {
+            face::push_near(state, w.levels.lent_mut(), sample, index)
         }
-    }
-
-    pub fn lent(&self) -> &'static [Part] {
-        use Part::*;
-        match self {
-            Call::New { .. } | Call::Reset => &[State, Envelope, LagSums],
-            Call::Rearm | Call::DiscardNear => &[State, LagSums],
-            Call::PushFar => &[State, Envelope, Samples],
-            Call::PushNear { .. } => &[State, Levels],
-            Call::PushNearRun { .. } => &[State, Levels, Samples, Values],
-            Call::Observe => &OBSERVED,
-            Call::BinSamples | Call::CeilingSamples => &[State, Values],
-            Call::Frames | Call::Correlation | Call::Region => &[State, Values],
-            Call::BeyondCeiling | Call::Finished | Call::Exhausted => &[State],
-        }
-    }
-
-    /// How many values it is lent.
-    pub fn values(&self) -> usize {
-        match self {
-            Call::Observe | Call::Region => 2,
-            _ => 1,
-        }
-    }
-
-    /// Calls the face.
-    pub fn face(&self, w: &mut World) -> u32 {
-        match *self {
-            Call::New { rate, ceiling } => face::new(
-                w.state.lent_mut(),
-                w.envelope.lent_mut(),
-                w.lag_sums.lent_mut(),
-                rate,
-                ceiling,
-            ),
-            Call::Reset => face::reset(
-                w.state.lent_mut(),
-                w.envelope.lent_mut(),
-                w.lag_sums.lent_mut(),
-            ),
-            Call::Rearm => face::rearm(w.state.lent_mut(), w.lag_sums.lent_mut()),
-            Call::DiscardNear => face::discard_near(w.state.lent_mut(), w.lag_sums.lent_mut()),
-            Call::PushFar => {
-                face::push_far(w.state.lent_mut(), w.envelope.lent_mut(), w.samples.lent())
-            }
-            Call::PushNear { sample, index } => {
-                face::push_near(w.state.lent_mut(), w.levels.lent_mut(), sample, index)
-            }
-            Call::PushNearRun { first } => face::push_near_run(
-                w.state.lent_mut(),
-                w.levels.lent_mut(),
-                w.samples.lent(),
-                first,
-                w.values.lent_mut(),
-            ),
-            Call::Observe => observe(w),
-            Call::BinSamples => face::bin_samples(w.state.lent(), w.values.lent_mut()),
-            Call::CeilingSamples => face::ceiling_samples(w.state.lent(), w.values.lent_mut()),
-            Call::Frames => face::frames(w.state.lent(), w.values.lent_mut()),
-            Call::Correlation => face::correlation(w.state.lent(), w.values.lent_mut()),
-            Call::Region => face::region(w.state.lent(), w.values.lent_mut()),
-            Call::BeyondCeiling => face::beyond_ceiling(w.state.lent()),
-            Call::Finished => face::finished(w.state.lent()),
-            Call::Exhausted => face::exhausted(w.state.lent()),
-        }
-    }
-
-    /// Does the same with the original: the number of the case, and the values that go with it.
-    pub fn original(&self, w: &World, scan: &mut CoarseScan) -> (u32, Vec<u64>) {
-        let flag = |yes: bool| (16 + yes as u32, vec![]);
-        match *self {
-            Call::New { rate, ceiling } => *scan = CoarseScan::new(rate, ceiling as u16),
-            Call::Reset => scan.reset(),
-            Call::Rearm => scan.rearm(),
-            Call::DiscardNear => scan.discard_near(),
-            Call::PushFar => scan.push_far(w.samples.lent()),
-            Call::PushNear { sample, index } => return (near_answer(scan, sample, index), vec![]),
-            Call::PushNearRun { first } => {
-                return (16, vec![near_run(scan, w.samples.lent(), first)])
-            }
-            Call::Observe => return frame_answer(scan.scored()),
-            Call::BinSamples => return (16, vec![scan.bin_samples() as u64]),
-            Call::CeilingSamples => return (16, vec![scan.ceiling_samples() as u64]),
-            Call::Frames => return (16, vec![scan.frames() as u64]),
-            Call::Correlation => return (16, vec![scan.correlation().to_bits() as u64]),
-            Call::Region => {
-                return match scan.region() {
-                    None => (16, vec![]),
-                    Some(region) => (17, vec![region.delay as u64, region.corr.to_bits()]),
-                }
-            }
-            Call::BeyondCeiling => return flag(scan.beyond_ceiling()),
-            Call::Finished => return flag(scan.finished()),
-            Call::Exhausted => return flag(scan.exhausted()),
-        }
-        (16, vec![])
+        Call::Observe => observe(w),
+        Call::BinSamples => face::bin_samples(state, values),
+        Call::CeilingSamples => face::ceiling_samples(state, values),
+        Call::Frames => face::frames(state, values),
+        Call::Correlation => face::correlation(state, values),
+        Call::Region => face::region(state, values),
+        Call::BeyondCeiling => face::beyond_ceiling(state),
+        Call::Finished => face::finished(state),
+        Call::Exhausted => face::exhausted(state),
     }
 }
 
@@ -190,6 +45,42 @@ pub fn observe(w: &mut World) -> u32 {
     )
 }
 
+/// Does the same with the original: the number of the case, and the values that go with it.
+pub fn original(w: &World, call: &Call, scan: &mut CoarseScan) -> (u32, Vec<u64>) {
+    let flag = |yes: bool| (16 + yes as u32, vec![]);
+    match *call {
+        Call::New { rate, ceiling } => *scan = CoarseScan::new(rate, ceiling as u16),
+        Call::Reset => scan.reset(),
+        Call::Rearm => scan.rearm(),
+        Call::DiscardNear => scan.discard_near(),
+        Call::PushFar => scan.push_far(w.samples.lent()),
+        Call::PushNear { sample, index } => return (near_answer(scan, sample, index), vec![]),
+        Call::Observe => return frame_answer(scan.scored()),
+        Call::BinSamples => return (16, vec![scan.bin_samples() as u64]),
+        Call::CeilingSamples => return (16, vec![scan.ceiling_samples() as u64]),
+        Call::Frames => return (16, vec![scan.frames() as u64]),
+        Call::Correlation => return (16, vec![correlation(scan) as u64]),
+        Call::Region => {
+            return match scan.region() {
+                None => (16, vec![]),
+                Some(region) => (17, vec![region.delay as u64, region.corr.to_bits()]),
+            }
+        }
+        Call::BeyondCeiling => return flag(scan.beyond_ceiling()),
+        Call::Finished => return flag(scan.finished()),
+        Call::Exhausted => return flag(scan.exhausted()),
+    }
+    (16, vec![])
+}
+
+/// The one report that the original computes: a region's correlation is narrowed, and what `as f32` makes of a NaN's bits is left open. Document 01 fixes it.
+fn correlation(scan: &CoarseScan) -> u32 {
+    match scan.region() {
+        Some(region) if region.corr.is_nan() => narrowed(region.corr.to_bits()),
+        _ => scan.correlation().to_bits(),
+    }
+}
+
 /// The original says only whether the frame is full: a finished scan ignores, and a sample that is not counted was dropped.
 fn near_answer(scan: &mut CoarseScan, sample: f32, index: u64) -> u32 {
     if scan.finished() {
@@ -205,32 +96,6 @@ fn near_answer(scan: &mut CoarseScan, sample: f32, index: u64) -> u32 {
         (_, true) => 18,
         _ => 17,
     }
-}
-
-/// Pushes the samples one by one as long as they pass, and says how many did: a run ends before the first one that is refused or fills the frame.
-fn near_run(scan: &mut CoarseScan, samples: &[f32], first: u64) -> u64 {
-    let ends = |scan: &CoarseScan, sample: f32, index: u64| {
-        let (fields, geometry) = (scan.fields(), scan.geometry());
-        let near = Near {
-            finished: scan.finished(),
-            full: fields.near_len == geometry.frame,
-            idle: fields.near_len == 0 && fields.near_count == 0,
-            decimation: geometry.decimation as u64,
-        };
-        let last =
-            fields.near_len + 1 == geometry.frame && fields.near_count + 1 == geometry.decimation;
-        near.refusal(sample, index) != 0 || last && !near.finished && !near.drops(index)
-    };
-    let mut passed = 0;
-    for sample in samples {
-        let index = first.wrapping_add(passed);
-        if ends(scan, *sample, index) {
-            break;
-        }
-        assert!(near_answer(scan, *sample, index) < 19);
-        passed += 1;
-    }
-    passed
 }
 
 pub fn frame_answer(answer: FrameAnswer) -> (u32, Vec<u64>) {

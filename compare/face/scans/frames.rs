@@ -1,10 +1,13 @@
 //! Counted frames, bit for bit: every sort of level, echoes, histories long along, spans up to the largest.
 
+use crate::coarse::CoarseScan;
+use crate::lists::Lists;
 use crate::random::Random;
-use crate::scans::calls::{frame_answer, observe, OBSERVED};
-use crate::scans::teleport;
+use crate::scans::calls::{frame_answer, observe};
+use crate::scans::choose::RATES;
+use crate::scans::shape::OBSERVED;
 use crate::scans::world::World;
-use crate::scans::RATES;
+use crate::scans::{beside, teleport};
 
 const CEILINGS: [u32; 12] = [1, 2, 7, 8, 9, 20, 31, 64, 120, 250, 300, 500];
 /// Naming an answer asks the original several times, so only some frames are named.
@@ -12,52 +15,74 @@ const NAMED: u64 = 7;
 
 pub fn run(seed: u64, count: u64) -> bool {
     let mut random = Random::new(seed);
-    let (mut done, mut scans, mut different) = (0, 0, 0);
-    let mut answers = [0u64; 9];
-    while done < count {
-        scans += 1;
-        let mut w = begin(&mut random);
-        let mut original = w.original();
-        for _ in 0..random.between(20, 80) {
-            if w.finished() || random.once_in(40) {
-                search_anew(&mut w);
-            }
-            teleport::near(&mut random, &mut w);
-            w.bring(&mut original);
-            for part in OBSERVED {
-                w.part(part).keep();
-            }
-            let named = (done % NAMED == 0).then(|| original.scored());
-            if named.is_none() {
-                original.observe();
-            }
-            let got = observe(&mut w);
-            done += 1;
-            if let Some(answer) = answers.get_mut((got as usize).wrapping_sub(16)) {
-                *answer += 1;
-            }
-            let misnamed = named.map(frame_answer).and_then(|(number, values)| {
-                let told = w.values.all().starts_with(&values);
-                (number != got || !told).then(|| format!("the Rust answers {number} {values:?}"))
-            });
-            let wrong = misnamed
-                .or_else(|| w.word_differs(w.words_before(), &original))
-                .or_else(|| w.buffer_differs(&original, &OBSERVED));
-            if let Some(what) = wrong {
-                different += 1;
-                println!(
-                    "frames seed {seed}, frame {done} of {}/{}, answer {got}: {what}",
-                    w.word(0),
-                    w.word(1)
-                );
-                break;
-            }
+    let mut totals = Totals::default();
+    while totals.frames < count {
+        if let Err(what) = scan(&mut random, &mut totals) {
+            totals.different += 1;
+            println!("frames seed {seed}, frame {} of {what}", totals.frames);
         }
     }
+    let Totals {
+        frames,
+        scans,
+        answers,
+        different,
+    } = totals;
     println!(
-        "frames seed {seed}: {done} frames in {scans} scans, answers 16 to 24 {answers:?}, {different} different"
+        "frames seed {seed}: {frames} frames in {scans} scans, answers 16 to 24 {answers:?}, {different} different"
     );
     different == 0
+}
+
+#[derive(Default)]
+struct Totals {
+    frames: u64,
+    scans: u64,
+    answers: [u64; 9],
+    different: u64,
+}
+
+/// Some frames over one far history.
+fn scan(random: &mut Random, totals: &mut Totals) -> Result<(), String> {
+    totals.scans += 1;
+    let mut w = begin(random);
+    let mut original = beside::original(&w);
+    for _ in 0..random.between(20, 80) {
+        if w.finished() || random.once_in(40) {
+            search_anew(&mut w);
+        }
+        teleport::near(random, &mut w);
+        beside::bring(&w, &mut original);
+        let named = totals.frames % NAMED == 0;
+        let (got, wrong) = frame(&mut w, &mut original, named);
+        totals.frames += 1;
+        if let Some(answer) = totals.answers.get_mut((got as usize).wrapping_sub(16)) {
+            *answer += 1;
+        }
+        if let Some(what) = wrong {
+            let (rate, ceiling) = (w.word(0), w.word(1));
+            return Err(format!("{rate}/{ceiling}, answer {got}: {what}"));
+        }
+    }
+    Ok(())
+}
+
+/// Scores a frame on both sides: the answer, and what is not the original's.
+fn frame(w: &mut World, original: &mut CoarseScan, named: bool) -> (u32, Option<String>) {
+    for list in OBSERVED {
+        w.list(list).keep();
+    }
+    let got = observe(w);
+    let mut wrong = None;
+    if named {
+        let (number, values) = frame_answer(original.scored());
+        let told = number == got && w.values.all().starts_with(&values);
+        wrong = (!told).then(|| format!("the Rust answers {number} {values:x?}"));
+    } else {
+        original.observe();
+    }
+    let wrong = wrong.or_else(|| beside::differs(w, original, &OBSERVED));
+    (got, wrong)
 }
 
 fn begin(random: &mut Random) -> World {

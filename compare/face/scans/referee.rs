@@ -1,54 +1,51 @@
-//! Which refusal is due: document 01's table, order and state rules, and what the C header says of lists and words. Nothing of the core's source.
+//! Which refusal is due: document 01's table, order and state rules, and what the C header says of lists and words. Nothing of the core's source, and of the
+//! calls only their shape.
 
+use super::shape::{Call, List};
+use super::world::{World, WORDS};
 use crate::rules::*;
-use crate::scans::calls::Call;
-use crate::scans::world::{Part, World, WORDS};
+use crate::shape::Call as _;
 
-/// The state and the values have the lengths that the call says.
-pub fn readable_words(w: &World, call: &Call) -> bool {
-    let values = !call.lent().contains(&Part::Values) || w.values.lent().len() == call.values();
-    w.state.lent().len() == WORDS && values
-}
-
-/// The number that is due; 0 for none. Of a run, the number that every sample of it is refused with.
-pub fn due(w: &World, call: &Call) -> u32 {
+pub fn due(w: &World, call: &Call) -> Judged {
     let state = w.state.lent();
-    if !readable_words(w, call) {
-        return WRONG_LENGTH;
+    let (shape, state_fits) = (call.shape(), state.len() == WORDS);
+    if let Call::New { rate, ceiling } = *call {
+        let (rate, ceiling) = (rate as u64, ceiling as u64);
+        judged_making(allowed(rate, ceiling), state_fits)?;
+        return buffers_fit(w, shape.lent, &Bins::of(rate, ceiling));
     }
-    let making = match *call {
-        Call::New { rate, ceiling } => Some((rate as u64, ceiling as u64)),
-        _ => None,
-    };
-    let (rate, ceiling) = making.unwrap_or((state[0], state[1]));
-    if !allowed_rate(rate) || !allowed_ceiling(ceiling) {
-        return OUTSIDE_TABLE;
+    let values_fit = shape.values_fit(w.values.lent().len());
+    judged(state_fits, || allowed(state[0], state[1]), values_fit)?;
+    let bins = Bins::of(state[0], state[1]);
+    buffers_fit(w, shape.lent, &bins)?;
+    require(keeps_rules(state, &bins), BROKEN_STATE)?;
+    match *call {
+        Call::PushFar => far_push(w),
+        Call::PushNear { sample, index } => near_push(w, &bins, sample, index),
+        Call::Observe => scoring(w, &bins),
+        _ => Ok(()),
     }
-    let bins = Bins::of(rate, ceiling);
-    if !call.lent().iter().all(|part| fits(w, *part, &bins)) {
-        return WRONG_LENGTH;
-    }
-    if making.is_some() {
-        return 0;
-    }
-    if !keeps_rules(state, &bins) {
-        return BROKEN_STATE;
-    }
-    later(w, call, &bins)
 }
 
-fn fits(w: &World, part: Part, bins: &Bins) -> bool {
-    let is = |len: usize, due: u64| len as u64 == due;
-    match part {
-        Part::State | Part::Values | Part::Samples => true,
-        Part::Envelope => is(w.envelope.lent().len(), bins.envelope()),
-        Part::Levels => is(w.levels.lent().len(), bins.frame),
-        Part::Window => is(w.window.lent().len(), bins.window()),
-        Part::Prefix => is(w.prefix.lent().len(), bins.prefix()),
-        Part::Squares => is(w.squares.lent().len(), bins.prefix()),
-        Part::Scores => is(w.scores.lent().len(), bins.lags()),
-        Part::LagSums => is(w.lag_sums.lent().len(), bins.lags()),
-    }
+fn allowed(rate: u64, ceiling: u64) -> bool {
+    allowed_rate(rate) && allowed_ceiling(ceiling)
+}
+
+fn buffers_fit(w: &World, lent: &[List], bins: &Bins) -> Judged {
+    let fits = |list: &List| {
+        let (len, due) = match list {
+            List::State | List::Values | List::Samples => return true,
+            List::Envelope => (w.envelope.lent().len(), bins.envelope()),
+            List::Levels => (w.levels.lent().len(), bins.frame),
+            List::Window => (w.window.lent().len(), bins.window()),
+            List::Prefix => (w.prefix.lent().len(), bins.prefix()),
+            List::Squares => (w.squares.lent().len(), bins.prefix()),
+            List::Scores => (w.scores.lent().len(), bins.lags()),
+            List::LagSums => (w.lag_sums.lent().len(), bins.lags()),
+        };
+        len as u64 == due
+    };
+    require(lent.iter().all(fits), WRONG_LENGTH)
 }
 
 fn keeps_rules(state: &[u64], bins: &Bins) -> bool {
@@ -72,67 +69,28 @@ fn keeps_rules(state: &[u64], bins: &Bins) -> bool {
         && (!finished || len == 0 && near_count == 0)
 }
 
-fn later(w: &World, call: &Call, bins: &Bins) -> u32 {
-    let state = w.state.lent();
-    let full = state[12] == bins.frame;
-    match *call {
-        Call::PushFar => {
-            if state[11] as u128 + w.samples.lent().len() as u128 > LIMIT as u128 {
-                return TOO_LARGE;
-            }
-            if !all_finite32(w.samples.lent()) {
-                return NOT_FINITE;
-            }
-        }
-        Call::PushNear { sample, index } => {
-            let near = Near {
-                finished: w.finished(),
-                full,
-                idle: state[12] == 0 && state[14] == 0,
-                decimation: bins.decimation,
-            };
-            return near.refusal(sample, index);
-        }
-        Call::Observe => {
-            if !full {
-                return NO_FULL_FRAME;
-            }
-            if !readable(w, bins) {
-                return NOT_FINITE;
-            }
-        }
-        _ => {}
-    }
-    0
+fn far_push(w: &World) -> Judged {
+    let samples = w.samples.lent();
+    let accepted = w.word(11) as u128 + samples.len() as u128;
+    require(accepted <= LIMIT as u128, TOO_LARGE)?;
+    require(all_finite32(samples), NOT_FINITE)
 }
 
-/// What a near push looks at in a state that keeps the rules.
-pub struct Near {
-    pub finished: bool,
-    pub full: bool,
-    pub idle: bool,
-    pub decimation: u64,
+/// A finished scan ignores any sample, and a sample is dropped unread where no frame is under way and none begins at its index.
+fn near_push(w: &World, bins: &Bins, sample: f32, index: u64) -> Judged {
+    if w.finished() {
+        return Ok(());
+    }
+    require(w.word(12) != bins.frame, FRAME_WAITS)?;
+    require(index < LIMIT, TOO_LARGE)?;
+    let idle = w.word(12) == 0 && w.word(14) == 0;
+    let dropped = idle && index % bins.decimation != 0;
+    require(dropped || finite32(sample.to_bits()), NOT_FINITE)
 }
 
-impl Near {
-    /// No frame is under way, and none begins at this index.
-    pub fn drops(&self, index: u64) -> bool {
-        self.idle && index % self.decimation != 0
-    }
-
-    pub fn refusal(&self, sample: f32, index: u64) -> u32 {
-        if self.finished {
-            0
-        } else if self.full {
-            FRAME_WAITS
-        } else if index >= LIMIT {
-            TOO_LARGE
-        } else if !self.drops(index) && !finite32(sample.to_bits()) {
-            NOT_FINITE
-        } else {
-            0
-        }
-    }
+fn scoring(w: &World, bins: &Bins) -> Judged {
+    require(w.word(12) == bins.frame, NO_FULL_FRAME)?;
+    require(readable(w, bins), NOT_FINITE)
 }
 
 /// A frame that is neither uncovered nor ahead reads its near levels, the written bins of its window and all lag sums.

@@ -4,9 +4,12 @@ use crate::choices;
 use crate::coarse::CoarseScan;
 use crate::face::scan as face;
 use crate::lent::Lent;
+use crate::lists::Lists;
 use crate::random::Random;
-use crate::scans::calls::{observe, OBSERVED};
-use crate::scans::world::{Part, World};
+use crate::scans::beside;
+use crate::scans::calls::observe;
+use crate::scans::shape::{List, OBSERVED};
+use crate::scans::world::World;
 
 pub fn run(seed: u64, scans: u64) -> bool {
     let mut random = Random::new(seed);
@@ -48,7 +51,7 @@ impl Stream {
         let ceiling = random.one_of(&[5, 20, 40, 80, 250]);
         let world = World::new(rate, ceiling);
         Stream {
-            original: world.original(),
+            original: beside::original(&world),
             world,
             rate: rate as u64,
             played: Vec::new(),
@@ -68,30 +71,27 @@ impl Stream {
             }
             if self.original.finished() {
                 totals.regions += self.original.region().is_some() as u64;
-                self.keep(&[Part::State, Part::LagSums]);
+                self.keep(&[List::State, List::LagSums]);
                 self.original.rearm();
                 let answer =
                     face::rearm(self.world.state.lent_mut(), self.world.lag_sums.lent_mut());
-                self.agree("rearm", answer, 16, &[Part::LagSums])?;
+                self.agree("rearm", answer, 16, &[List::LagSums])?;
             }
         }
         Ok(())
     }
 
-    fn keep(&mut self, parts: &[Part]) {
-        for part in parts {
-            self.world.part(*part).keep();
+    fn keep(&mut self, lists: &[List]) {
+        for list in lists {
+            self.world.list(*list).keep();
         }
     }
 
-    fn agree(&mut self, call: &str, got: u32, due: u32, parts: &[Part]) -> Result<(), String> {
+    fn agree(&mut self, call: &str, got: u32, due: u32, lists: &[List]) -> Result<(), String> {
         if got != due {
             return Err(format!("{call} answered {got}, not {due}"));
         }
-        let w = &self.world;
-        let wrong = w
-            .word_differs(w.words_before(), &self.original)
-            .or_else(|| w.buffer_differs(&self.original, parts));
+        let wrong = beside::differs(&self.world, &self.original, lists);
         wrong.map_or(Ok(()), |what| Err(format!("{call}: {what}")))
     }
 
@@ -106,13 +106,13 @@ impl Stream {
             })
             .collect();
         self.world.samples = Lent::of(&samples);
-        self.keep(&[Part::State, Part::Envelope, Part::Samples]);
+        self.keep(&[List::State, List::Envelope, List::Samples]);
         self.original.push_far(&samples);
         self.played.extend(&samples);
         let w = &mut self.world;
         let answer = face::push_far(w.state.lent_mut(), w.envelope.lent_mut(), w.samples.lent());
         totals.pushes += 1;
-        self.agree("far push", answer, 16, &[Part::Envelope])
+        self.agree("far push", answer, 16, &[List::Envelope])
     }
 
     fn near(&mut self, index: u64, totals: &mut Totals) -> Result<(), String> {
@@ -130,7 +130,7 @@ impl Stream {
             return Ok(());
         }
         self.keep(&OBSERVED);
-        self.agree("near push", answer, 19, &[Part::Levels])?;
+        self.agree("near push", answer, 19, &[List::Levels])?;
         self.original.observe();
         totals.frames += 1;
         let answer = observe(&mut self.world);

@@ -95,6 +95,15 @@ pub fn nearly_full(random: &mut Random, w: &mut World) {
     w.set_word(14, bins.decimation - random.between(1, 2));
 }
 
+/// A region of any delay, whose correlation is mostly no plain number.
+pub fn region(random: &mut Random, w: &mut World) {
+    w.set_word(12, 0);
+    w.set_word(14, 0);
+    w.set_word(19, 1);
+    w.set_word(20, choices::word(random, 4_800));
+    w.set_word(21, choices::odd64(random));
+}
+
 /// Sums of up to three frames, with peaks anywhere, and a count of frames about to be the last.
 pub fn sums(random: &mut Random, w: &mut World) {
     let banked = random.below(4);

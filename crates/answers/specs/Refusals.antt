@@ -45,5 +45,5 @@ abbrev pub before : ℕ → ℕ → ℕ
 before first rest = pick (eqb first none) rest first
 
 -- what a call gives: `refused` where it is refused with the number, `done` where the number is none
-abbrev pub unless : {A : Type 0} → ℕ → A → A → A
-unless number refused done = pick (eqb number none) done refused
+abbrev pub ifRefused : {A : Type 0} → ℕ → A → A → A
+ifRefused number refused done = pick (eqb number none) done refused

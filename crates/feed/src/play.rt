@@ -52,6 +52,17 @@ fn end(progress: Progress, at: usize, len: usize) -> usize
     }
 }
 
+// The sink with an event's lines in it, up to `at`. Lines that found no room make it fail.
+fn taken(sink: Sink, progress: Progress, at: usize) -> Sink
+    ensures { λ r. ⌜ r .at ≡ at ⌝ }
+{
+    match progress {
+        Progress::NoRoom => sink::failed(sink::until(sink, at)),
+        Progress::Wrote(_) => sink::until(sink, at),
+        Progress::Ended(_) => sink::until(sink, at),
+    }
+}
+
 fn ended(progress: Progress) -> bool {
     match progress {
         Progress::NoRoom => true,
@@ -164,7 +175,7 @@ pub fn events(
         );
         session = stepped.session;
         let progress = stepped.progress;
-        sink = sink::until(sink, end(progress, at, out.len()));
+        sink = taken(sink, progress, end(progress, at, out.len()));
         if ended(progress) {
             return so_far(inputs, session, sink, true);
         }

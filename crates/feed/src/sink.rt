@@ -1,7 +1,7 @@
 // Where the text of a log goes: it is written, or held against a stored log.
 use libc::STDERR_FILENO;
-use lines::Line;
-use lines::Written;
+use log_lines::Line;
+use log_lines::Written;
 ghost use mathlib.Core.Path.{_≡_};
 ghost use Prim.Native.Nat.{_+_, _-_, _≤_, _<_};
 ghost use lib.ListN.{length};
@@ -141,6 +141,20 @@ pub fn room(sink: Sink, out: &[u8]) -> Sink
     sink
 }
 
+// A sink that has failed, as one has that a line found no room in: no line is lost without a word.
+pub fn failed(sink: Sink) -> Sink
+    ensures { λ r. ⌜ r .at ≡ sink .at ⌝ }
+{
+    Sink {
+        fd: sink.fd,
+        compares: sink.compares,
+        progress: sink.progress,
+        at: sink.at,
+        done: sink.done,
+        good: false,
+    }
+}
+
 // Puts a line and its newline behind what stands in the buffer.
 pub fn log(sink: Sink, out: &mut [u8], line: Line) -> Sink
     requires { ⌜ sink .at ≤ length (now out) ⌝ }
@@ -148,15 +162,15 @@ pub fn log(sink: Sink, out: &mut [u8], line: Line) -> Sink
 {
     let at = sink.at;
     let most = out.len() - at;
-    match lines::write_line(line, &mut out[at..]) {
-        Written::NoRoom => sink,
+    match log_lines::write_line(line, &mut out[at..]) {
+        Written::NoRoom => failed(sink),
         Written::Bytes(n) => {
             if n < most {
                 let end = at + n;
                 out[end] = 10;
                 return until(sink, end + 1);
             }
-            sink
+            failed(sink)
         }
     }
 }

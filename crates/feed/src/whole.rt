@@ -6,12 +6,12 @@ use crate::play;
 use crate::play::Played;
 use crate::sink;
 use crate::sink::Sink;
-use lines::Line;
+use log_lines::Line;
 use recording::Header;
 use recording::Start;
 use replay::Begun;
 use replay::Session;
-use scan::rules;
+use scan_calls::rules;
 ghost use mathlib.Core.Path.{_≡_};
 ghost use Prim.Native.Nat.{_+_, _≤_, _<_};
 ghost use lib.ListN.{length};
@@ -188,7 +188,7 @@ fn sized(
 {
     let g = rules::geometry_of(header.rate, header.ceiling);
     let bins = g.frame + g.span;
-    let e = least(rules::envelope_len(scan::SLACK, g), envelope.len());
+    let e = least(rules::envelope_len(scan_calls::SLACK, g), envelope.len());
     let l = least(g.frame, levels.len());
     let w = least(bins, window.len());
     let p = least(bins + 1, prefix.len());

@@ -4,14 +4,14 @@ use mathlib.Core.Path.{_≡_, refl, sym}
 use lib.Dec.{eqb}
 use borrow.Author.Tests.{eqb-true}
 use Rattle.answers.specs.Pick.{pick-case}
-use Rattle.answers.specs.Refusals.{unless, none}
+use Rattle.answers.specs.Refusals.{ifRefused, none}
 use Rattle.units.specs.declared.Samples.{Samples}
 use Rattle.fine.specs.Calls.{changed, changeNumber, makingRefusal, made, stateRefusal, restarted, relocateRefusal, relocated, wasReset, samplesReported, samplesNumber, countReported, countNumber, searchRange, rangeNumber, lastScanRatio, ratioNumber, lastScanPeakAt, positionNumber}
 use Rattle.fine.specs.declared.Changed.{Changed}
 use Rattle.fine.specs.declared.Fine.{Fine}
 
 -- of a choice between a refusal that bears its number and an answer that bears none
-pub told : {A : Type 0} (number : A → ℕ) (n : ℕ) (refused done : A) → number refused ≡ n → number done ≡ none → number (unless n refused done) ≡ n
+pub told : {A : Type 0} (number : A → ℕ) (n : ℕ) (refused done : A) → number refused ≡ n → number done ≡ none → number (ifRefused n refused done) ≡ n
 told number n refused done r d = pick-case (λ a. number a ≡ n) (eqb n none) done refused (λ e. rw d (sym (eqb-true n none e))) (λ e. r)
 
 change : (n : ℕ) (given next : Fine) → changeNumber (changed n given next .answer) ≡ n

@@ -4,7 +4,7 @@ use mathlib.Core.Bool.{Bool, true}
 use lib.Dec.{ltb}
 use lib.Ieee.{Float}
 use Rattle.answers.specs.Pick.{pick}
-use Rattle.answers.specs.Refusals.{require, before, unless, none, outsideTable, tooLarge}
+use Rattle.answers.specs.Refusals.{require, before, ifRefused, none, outsideTable, tooLarge}
 use Rattle.answers.specs.Numbers.{limit, allowedSpan}
 use Rattle.units.specs.Units.{samples}
 use Rattle.units.specs.declared.Samples.{Samples}
@@ -30,7 +30,7 @@ use Rattle.fine.specs.declared.PositionReport.the-variants as positionRe
 -- a call that changes the state `given` to `next`, or is refused and returns the one given
 unfoldable pub changed : ℕ → Fine → Fine → Changed
 changed refusal given next =
-    unless refusal
+    ifRefused refusal
     (record { fine = given; answer = change.Refused refusal })
     (record { fine = next; answer = change.Done })
 
@@ -75,10 +75,10 @@ wasReset s = changed (stateRefusal s) s (newWith (s .lengths))
 -- ---- reports
 
 unfoldable pub samplesReported : ℕ → Samples → SamplesReport
-samplesReported refusal n = unless refusal (samplesReport.Refused refusal) (samplesReport.Is n)
+samplesReported refusal n = ifRefused refusal (samplesReport.Refused refusal) (samplesReport.Is n)
 
 unfoldable pub countReported : ℕ → ℕ → CountReport
-countReported refusal n = unless refusal (countReport.Refused refusal) (countReport.Is n)
+countReported refusal n = ifRefused refusal (countReport.Refused refusal) (countReport.Is n)
 
 unfoldable pub frameLen : Fine → SamplesReport
 frameLen s = samplesReported (stateRefusal s) (samples (s .lengths .frame))
@@ -89,7 +89,7 @@ windowLen s = samplesReported (stateRefusal s) (samples (s .lengths .frame + spa
 unfoldable pub maxDelay : Fine → SamplesReport
 maxDelay s = samplesReported (stateRefusal s) (samples (spanOf s))
 
--- how far back from the near frame's end the far window starts
+-- how far back from the near frame's start the far window starts (the Rust's comment says end; its acquirer takes it from the start)
 unfoldable pub windowBackOff : Fine → SamplesReport
 windowBackOff s = samplesReported (stateRefusal s) (samples (s .origin .0 + spanOf s))
 
@@ -102,7 +102,7 @@ abbrev pub rangeOf : Fine → Range
 rangeOf s = record { first = s .origin; last = samples (s .origin .0 + spanOf s) }
 
 unfoldable pub searchRange : Fine → RangeReport
-searchRange s = unless (stateRefusal s) (rangeReport.Refused (stateRefusal s)) (rangeReport.Is (rangeOf s))
+searchRange s = ifRefused (stateRefusal s) (rangeReport.Refused (stateRefusal s)) (rangeReport.Is (rangeOf s))
 
 -- the frames taken against the current origin
 unfoldable pub framesOf : Fine → CountReport
@@ -115,10 +115,10 @@ unfoldable pub scansOf : Fine → CountReport
 scansOf s = countReported (stateRefusal s) (s .scans .count)
 
 unfoldable pub lastScanRatio : Fine → RatioReport
-lastScanRatio s = unless (stateRefusal s) (ratioReport.Refused (stateRefusal s)) (ratioReport.Is (s .scans .ratio))
+lastScanRatio s = ifRefused (stateRefusal s) (ratioReport.Refused (stateRefusal s)) (ratioReport.Is (s .scans .ratio))
 
 unfoldable pub lastScanPeakAt : Fine → PositionReport
-lastScanPeakAt s = unless (stateRefusal s) (positionReport.Refused (stateRefusal s)) (positionReport.Is (s .scans .«peak_at»))
+lastScanPeakAt s = ifRefused (stateRefusal s) (positionReport.Refused (stateRefusal s)) (positionReport.Is (s .scans .«peak_at»))
 
 -- ---- the refusal number of an answer, and none of one that is no refusal
 

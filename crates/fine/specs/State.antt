@@ -33,9 +33,16 @@ pub record LeastPower (n p : ℕ) : Type 0 where
   pub reaches : n ≤ p
   pub least : (j : ℕ) → n ≤ 2 ^ j → p ≤ 2 ^ j
 
+-- the shortest and the longest transform (MIN_FFT_LEN, MAX_FFT_LEN): a short search still correlates over enough signal to mean something
+abbrev pub minTransform : ℕ
+minTransform = 256
+
+abbrev pub maxTransform : ℕ
+maxTransform = 65536
+
 -- transform length: the least power of two not below twice the span, kept within 256 and 65,536
 unfoldable pub transformOf : ℕ → ℕ
-transformOf span = min (max (leastPower (2 * span)) 256) 65536
+transformOf span = min (max (leastPower (2 * span)) minTransform) maxTransform
 
 -- frame = that less the span
 abbrev pub frameOf : ℕ → ℕ

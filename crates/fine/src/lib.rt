@@ -91,6 +91,9 @@ pub struct Changed {
 
 // ---- what follows from the span
 
+// The shortest transform; none is longer than 65,536, since no span passes 32,768.
+const MIN_FFT_LEN: u64 = 256;
+
 fn least_power(n: u64) -> u64
     ensures { λ r. ⌜ (r ≡ leastPower n) × (r ≤ 65536) ⌝ }
 {
@@ -108,7 +111,7 @@ fn transform_len(span: u32) -> u64
     ensures { λ r. ⌜ r ≡ transformOf span ⌝ }
 {
     let p = least_power(2 * span as u64);
-    if p < 256 { 256 } else { p }
+    if p < MIN_FFT_LEN { MIN_FFT_LEN } else { p }
 }
 
 impl Lengths {
@@ -356,7 +359,7 @@ impl Fine {
         SamplesReport::of(self.refusal(), Samples(lengths.span as u64))
     }
 
-    // How far back from the near frame's end the far window starts.
+    // How far back from the near frame's start the far window starts.
     pub fn window_back_off(self) -> SamplesReport
         ensures { λ r. ⌜ r ≡ windowBackOff self ⌝ }
     {

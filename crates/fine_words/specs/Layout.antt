@@ -17,6 +17,10 @@ use Rattle.fine.specs.declared.Scans.{Scans}
 use Rattle.fine.specs.declared.Fine.{Fine}
 use Rattle.words.specs.Words.{word, half, patternOf, flagOf}
 
+-- how many words a state has
+abbrev pub fineWords : ℕ
+fineWords = 13
+
 -- ---- loading
 
 -- a span of 2^32 or more is outside the table, as 0 is
@@ -77,5 +81,5 @@ stored ws s =
     ∷ []
 
 -- what a call leaves in the words: numbers below 16 are refusals, and a refused call leaves every word
-unfoldable pub answered : List ℕ → ℕ → Fine → List ℕ
-answered ws number s = pick (ltb number 16) ws (stored ws s)
+unfoldable pub settled : List ℕ → ℕ → Fine → List ℕ
+settled ws number s = pick (ltb number 16) ws (stored ws s)

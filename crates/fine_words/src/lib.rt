@@ -1,7 +1,7 @@
-// A fine state, from the 13 words that a host lends and back. specs/Layout.antt says where each field stands.
+// A fine state, from the 13 words that a host lends and back, and its calls' answers as numbers and values. specs/Layout.antt says where each field stands.
 ghost use mathlib.Core.Path.{_≡_};
 ghost use lib.ListN.{length};
-ghost use Rattle.fine_words.specs.Layout.{loadedLengths, areCases, loadedOrigin, loadedFrames, loadedPeakAt, loadedScans, loaded, peakFlag, peakWord, stored, answered};
+ghost use Rattle.fine_words.specs.Layout.{fineWords, loadedLengths, areCases, loadedOrigin, loadedFrames, loadedPeakAt, loadedScans, loaded, peakFlag, peakWord, stored, settled};
 use fine::Fine;
 use fine::Frames;
 use fine::Lengths;
@@ -9,10 +9,12 @@ use fine::Position;
 use fine::Scans;
 use units::Samples;
 
+pub mod answering; // what a call answers
+
 pub const WORDS: usize = 13;
 
 fn load_lengths(state: &[u64]) -> Lengths
-    requires { ⌜ length (now state) ≡ 13 ⌝ }
+    requires { ⌜ length (now state) ≡ fineWords ⌝ }
     ensures { λ r. ⌜ r ≡ loadedLengths (now (state .entry)) ⌝ }
 {
     Lengths {
@@ -24,7 +26,7 @@ fn load_lengths(state: &[u64]) -> Lengths
 
 // Whether each flag is 0 or 1, and the counts of frames are numbers of 32 bits.
 fn are_cases(state: &[u64]) -> bool
-    requires { ⌜ length (now state) ≡ 13 ⌝ }
+    requires { ⌜ length (now state) ≡ fineWords ⌝ }
     ensures { λ r. ⌜ r ≡ areCases (now (state .entry)) ⌝ }
 {
     if state[5] >= 2 {
@@ -40,7 +42,7 @@ fn are_cases(state: &[u64]) -> bool
 }
 
 fn load_origin(state: &[u64]) -> Samples
-    requires { ⌜ length (now state) ≡ 13 ⌝ }
+    requires { ⌜ length (now state) ≡ fineWords ⌝ }
     ensures { λ r. ⌜ r ≡ loadedOrigin (now (state .entry)) ⌝ }
 {
     if are_cases(state) {
@@ -50,7 +52,7 @@ fn load_origin(state: &[u64]) -> Samples
 }
 
 fn load_frames(state: &[u64]) -> Frames
-    requires { ⌜ length (now state) ≡ 13 ⌝ }
+    requires { ⌜ length (now state) ≡ fineWords ⌝ }
     ensures { λ r. ⌜ r ≡ loadedFrames (now (state .entry)) ⌝ }
 {
     Frames {
@@ -62,7 +64,7 @@ fn load_frames(state: &[u64]) -> Frames
 }
 
 fn load_peak_at(state: &[u64]) -> Position
-    requires { ⌜ length (now state) ≡ 13 ⌝ }
+    requires { ⌜ length (now state) ≡ fineWords ⌝ }
     ensures { λ r. ⌜ r ≡ loadedPeakAt (now (state .entry)) ⌝ }
 {
     if state[10] == 0 {
@@ -72,7 +74,7 @@ fn load_peak_at(state: &[u64]) -> Position
 }
 
 fn load_scans(state: &[u64]) -> Scans
-    requires { ⌜ length (now state) ≡ 13 ⌝ }
+    requires { ⌜ length (now state) ≡ fineWords ⌝ }
     ensures { λ r. ⌜ r ≡ loadedScans (now (state .entry)) ⌝ }
 {
     Scans {
@@ -84,7 +86,7 @@ fn load_scans(state: &[u64]) -> Scans
 }
 
 pub fn load(state: &[u64]) -> Fine
-    requires { ⌜ length (now state) ≡ 13 ⌝ }
+    requires { ⌜ length (now state) ≡ fineWords ⌝ }
     ensures { λ r. ⌜ r ≡ loaded (now (state .entry)) ⌝ }
 {
     Fine {
@@ -115,7 +117,7 @@ fn peak_word(old: u64, peak_at: Position) -> u64
 }
 
 fn store(state: &mut [u64], fine: Fine)
-    requires { ⌜ length (now state) ≡ 13 ⌝ }
+    requires { ⌜ length (now state) ≡ fineWords ⌝ }
     ensures { λ _. ⌜ now (state .exit) ≡ stored (now (state .entry)) fine ⌝ }
 {
     let lengths = fine.lengths;
@@ -142,13 +144,15 @@ fn store(state: &mut [u64], fine: Fine)
     words::put(&stored, state);
 }
 
-// What a call leaves in the words: nothing new where it was refused.
-pub fn answer(state: &mut [u64], number: u32, fine: Fine)
-    requires { ⌜ length (now state) ≡ 13 ⌝ }
-    ensures { λ _. ⌜ now (state .exit) ≡ answered (now (state .entry)) number fine ⌝ }
+// What a call leaves in the words, nothing new where it was refused; and the call's number.
+pub fn settle(state: &mut [u64], number: u32, fine: Fine) -> u32
+    requires { ⌜ length (now state) ≡ fineWords ⌝ }
+    ensures number { λ r. ⌜ r ≡ number ⌝ }
+    ensures words { λ r. ⌜ now (state .exit) ≡ settled (now (state .entry)) number fine ⌝ }
 {
     if number < 16 {
-        return;
+        return number;
     }
     store(state, fine);
+    number
 }

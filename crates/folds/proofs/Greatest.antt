@@ -21,7 +21,7 @@ use Rattle.folds.specs.declared.Peak.{Peak}
 -- ---- the order of values that are not below 0
 
 -- zero or above, infinity too
-abbrev Positive : Float → Type 0
+abbrev pub Positive : Float → Type 0
 Positive nan = ⊥
 Positive (inf s) = s ≡ false
 Positive (fin s m e) = s ≡ false
@@ -36,7 +36,7 @@ both-true : (a b : Bool) → (a && b) ≡ true → (a ≡ true) × (b ≡ true)
 both-true true b e = (refl, e)
 both-true false b e = absurd (false≢true e)
 
-lt-trans : (x y z : Float) → Positive x → lt x y ≡ true → lt y z ≡ true → lt x z ≡ true
+pub lt-trans : (x y z : Float) → Positive x → lt x y ≡ true → lt y z ≡ true → lt x z ≡ true
 unfolding lt
 lt-trans nan y z p h k = absurd p
 lt-trans (inf true) y z p h k = absurd (true≢false p)
@@ -86,7 +86,7 @@ lt-eq (fin false m e) (fin false n d) (fin true l g) p h k =
     absurd (omega (arith, zero-mul (down e)))
 
 -- nothing is below itself
-lt-self : (x : Float) → lt x x ≡ false
+pub lt-self : (x : Float) → lt x x ≡ false
 unfolding lt
 lt-self nan = refl
 lt-self (inf true) = refl
@@ -94,7 +94,7 @@ lt-self (inf false) = refl
 lt-self (fin false m e) = let n = m * up e * down e in le-ltb n n (omega arith)
 lt-self (fin true m e) = let n = m * up e * down e in le-ltb n n (omega arith)
 
-above-zero : (x : Float) → lt zero64 x ≡ true → Positive x
+pub above-zero : (x : Float) → lt zero64 x ≡ true → Positive x
 unfolding lt
 above-zero nan h = false≢true h
 above-zero (inf true) h = sym h
@@ -104,11 +104,11 @@ above-zero (fin false m e) h = refl
 
 -- ---- the search
 
-decided : (b : Bool) → (b ≡ true → ⊥) → b ≡ false
+pub decided : (b : Bool) → (b ≡ true → ⊥) → b ≡ false
 decided true h = absurd (h refl)
 decided false h = refl
 
-refuted : (b : Bool) → b ≡ false → b ≡ true → ⊥
+pub refuted : (b : Bool) → b ≡ false → b ≡ true → ⊥
 refuted b p q = false≢true (sym p ∙ q)
 
 -- the first value and the others; the others from the second on; those past one of the others

@@ -11,11 +11,11 @@ use Rattle.answers.specs.Pick.{both, pick-true}
 use Rattle.answers.specs.Numbers.{allowedRate}
 use Rattle.answers.proofs.Refusals.{passed}
 use Rattle.folds.specs.Sums.{zeros}
-use Rattle.coarse.specs.Bins.{inTable, geometryOf, fullSlack, envelopeLen, nearLen, windowLen, prefixLen, lags}
-use Rattle.coarse.specs.State.{Buffers}
-use Rattle.coarse.specs.Calls.{allLengths}
-use Rattle.coarse.specs.declared.Geometry.{Geometry}
-use Rattle.scan.proofs.Chains.{turned-down, accepted, first, second}
+use Rattle.scan.specs.Bins.{inTable, geometryOf, fullSlack, envelopeLen, nearLen, windowLen, prefixLen, lags}
+use Rattle.scan.specs.State.{Buffers}
+use Rattle.scan.specs.Calls.{allLengths}
+use Rattle.scan.specs.declared.Geometry.{Geometry}
+use Rattle.scan_calls.proofs.Chains.{turned-down, accepted, first, second}
 use Rattle.tracker.specs.Tracker.{made, fresh}
 use Rattle.recording.specs.declared.Header.{Header}
 use Rattle.replay.specs.Log.{newSession, clearBuffers}

@@ -5,7 +5,7 @@ use denote.Ref.{now}
 use denote.Triple.Clauses.{AtExit}
 use borrow.Fn.Kinds.{Dens, resT, endedOf}
 use Rattle.answers.proofs.Once.{Determined, once}
-use Rattle.scoring.specs.Observing.{lent}
+use Rattle.scan_score.specs.Observing.{lent}
 use Rattle.replay.specs.Library.{Beginning, Logged}
 use Rattle.replay.proofs.opening.Kinds as opening-kinds
 use Rattle.replay.proofs.opening.Reads as opening-reads

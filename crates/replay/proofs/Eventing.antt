@@ -9,7 +9,7 @@ use lib.ListN.{length, drop}
 use lib.Seq.{sets, sets-eq}
 use borrow.Author.Tests.{le-leb, lt-leb}
 use Rattle.answers.specs.Pick.{pick, pick-true, pick-false}
-use Rattle.coarse.specs.State.{Buffers}
+use Rattle.scan.specs.State.{Buffers}
 use Rattle.recording.specs.declared.Header.{Header}
 use Rattle.recording.specs.declared.Lengths.{Lengths}
 use Rattle.recording.specs.declared.Entry.{Entry}

@@ -9,11 +9,11 @@ use lib.ListN.{length, drop, getD}
 use lib.Seq.{drop-cons}
 use Rattle.answers.specs.Pick.{pick, pick-true, pick-false}
 use Rattle.answers.specs.Numbers.{nextLongCount}
-use Rattle.coarse.specs.State.{Buffers}
-use Rattle.lines.specs.Lines.{textOf}
-use Rattle.lines.specs.Steps.{Put}
-use Rattle.lines.specs.declared.Line.{Line}
-use Rattle.lines.proofs.Laws.{then}
+use Rattle.scan.specs.State.{Buffers}
+use Rattle.log_lines.specs.Lines.{textOf}
+use Rattle.log_lines.specs.Steps.{Put}
+use Rattle.log_lines.specs.declared.Line.{Line}
+use Rattle.log_lines.proofs.Laws.{then}
 use Rattle.replay.specs.Events.{Play, goesOn, after, samplePlayed, nearPlayed}
 use Rattle.replay.specs.Log.{logText}
 use Rattle.replay.specs.Telling.{Tells, Plays}

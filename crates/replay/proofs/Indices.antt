@@ -13,17 +13,17 @@ use lib.Ieee.{Float}
 use lib.Ieee.Scale.{finite}
 use borrow.Author.Tests.{le-ltb, eqb-true}
 use Rattle.answers.specs.Pick.{pick, either, pick-true, pick-false}
-use Rattle.answers.specs.Refusals.{require, before, unless, none, notFinite, tooLarge, frameWaits}
+use Rattle.answers.specs.Refusals.{require, before, ifRefused, none, notFinite, tooLarge, frameWaits}
 use Rattle.answers.specs.Numbers.{limit, nextLongCount}
 use Rattle.answers.proofs.Refusals.{passed-both}
-use Rattle.coarse.specs.Bins.{nearLen}
-use Rattle.coarse.specs.State.{Buffers, finished, full, due, firstRefusals}
-use Rattle.coarse.specs.Blocks.{dropped, gather}
-use Rattle.coarse.specs.Calls.{NearPush, untaken, takenBy, nearRefusal, pushedNear}
-use Rattle.coarse.specs.declared.Scan.{Scan}
-use Rattle.coarse.specs.declared.Taking.the-variants as taking
+use Rattle.scan.specs.Bins.{nearLen}
+use Rattle.scan.specs.State.{Buffers, finished, full, due, firstRefusals}
+use Rattle.scan.specs.Blocks.{dropped, gather}
+use Rattle.scan.specs.Calls.{NearPush, untaken, takenBy, nearRefusal, pushedNear}
+use Rattle.scan.specs.declared.Scan.{Scan}
+use Rattle.scan.specs.declared.Taking.the-variants as taking
 use Rattle.replay.specs.Events.{Play, goesOn, after, afterTaking, withScan, samplePlayed, nearPlayed}
-use Rattle.coarse.specs.Steps.{withLevels}
+use Rattle.scan.specs.Steps.{withLevels}
 use Rattle.replay.specs.declared.Session.{Session}
 
 -- ---- indices of 2^62 or more
@@ -58,13 +58,13 @@ settled false done a rest r h = refl
 
 -- what such a sample gives, whatever it holds
 abbrev pushedLarge : Scan → List Float → NearPush
-pushedLarge s levels = unless (largeRefusal s levels) (untaken s levels (taking.Refused (largeRefusal s levels))) (untaken s levels taking.Ignored)
+pushedLarge s levels = ifRefused (largeRefusal s levels) (untaken s levels (taking.Refused (largeRefusal s levels))) (untaken s levels taking.Ignored)
 
 pushed-large : (s : Scan) (levels : List Float) (x : Float) (index : ℕ) → limit ≤ index → pushedNear s levels x index ≡ pushedLarge s levels
 unfolding pushedNear
 pushed-large s levels x index h =
     let rest = pick (dropped (s .geometry) (s .near) index) (untaken s levels taking.Dropped) (takenBy s (gather (s .geometry) (record { near = s .near; levels = levels }) x index)) in
-    ap (λ (n : ℕ). unless n (untaken s levels (taking.Refused n)) (pick (finished (s .verdict)) (untaken s levels taking.Ignored) rest)) (refused-large s levels x index h)
+    ap (λ (n : ℕ). ifRefused n (untaken s levels (taking.Refused n)) (pick (finished (s .verdict)) (untaken s levels taking.Ignored) rest)) (refused-large s levels x index h)
     ∙ settled (eqb (largeRefusal s levels) 0) (finished (s .verdict)) (untaken s levels taking.Ignored) rest (untaken s levels (taking.Refused (largeRefusal s levels)))
     (λ (t : eqb (largeRefusal s levels) 0 ≡ true). large-finished s levels (eqb-true _ _ t))
 

@@ -9,7 +9,7 @@ use lib.ListN.{length, take, drop, length-take}
 use lib.Ieee.{Float}
 use Rattle.answers.specs.Pick.{both, pick-all, pick-case}
 use Rattle.answers.proofs.Passed.{both-true, within-most}
-use Rattle.coarse.specs.State.{Buffers}
+use Rattle.scan.specs.State.{Buffers}
 use Rattle.recording.specs.Bytes.{numberAt}
 use Rattle.recording.specs.Recording.{u32At, someSamples, unused, eventOf, eventAt}
 use Rattle.recording.specs.Samples.{part, samplesOf}

@@ -9,14 +9,14 @@ use lib.ListN.{length, take, drop, set, length-drop, drop-of-length-le}
 use lib.Seq.{sets, sets-eq, take-all, drop-drop}
 use borrow.Author.Tests.{le-leb}
 use Rattle.answers.specs.Pick.{pick-true}
-use Rattle.lines.specs.Lines.{textOf}
-use Rattle.lines.specs.Calls.{written, writtenOut}
-use Rattle.lines.specs.Steps.{Put}
-use Rattle.lines.specs.declared.Line.{Line}
-use Rattle.lines.specs.declared.Written.{Written}
-use Rattle.lines.specs.declared.Written.the-variants.{Bytes, NoRoom}
-use Rattle.lines.proofs.Laws.{then, as-long}
-use Rattle.lines.proofs.Answers.{line-short}
+use Rattle.log_lines.specs.Lines.{textOf}
+use Rattle.log_lines.specs.Calls.{written, writtenOut}
+use Rattle.log_lines.specs.Steps.{Put}
+use Rattle.log_lines.specs.declared.Line.{Line}
+use Rattle.log_lines.specs.declared.Written.{Written}
+use Rattle.log_lines.specs.declared.Written.the-variants.{Bytes, NoRoom}
+use Rattle.log_lines.proofs.Laws.{then, as-long}
+use Rattle.log_lines.proofs.Answers.{line-short}
 use Rattle.replay.specs.Log.{logText}
 
 -- the part of a buffer from a place on, and the buffer with another list in that part's place

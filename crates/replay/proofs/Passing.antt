@@ -9,13 +9,13 @@ use lib.ListN.{length, take, drop, length-drop}
 use lib.Seq.{drop-drop, take-length}
 use Rattle.answers.specs.Pick.{pick, pick-true, pick-false, pick-case}
 use Rattle.answers.specs.Numbers.{nextLongCount}
-use Rattle.coarse.specs.State.{Buffers}
-use Rattle.coarse.specs.Calls.{pushedNear}
-use Rattle.coarse.specs.Steps.{withLevels}
-use Rattle.coarse.specs.declared.Scan.{Scan}
-use Rattle.coarse.specs.declared.Taking.{Taking}
-use Rattle.coarse.specs.declared.Taking.the-variants as taking
-use Rattle.runs.specs.Runs.{Run, passes, rests, further, ran}
+use Rattle.scan.specs.State.{Buffers}
+use Rattle.scan.specs.Calls.{pushedNear}
+use Rattle.scan.specs.Steps.{withLevels}
+use Rattle.scan.specs.declared.Scan.{Scan}
+use Rattle.scan.specs.declared.Taking.{Taking}
+use Rattle.scan.specs.declared.Taking.the-variants as taking
+use Rattle.scan_runs.specs.Runs.{Run, passes, rests, further, ran}
 use Rattle.replay.specs.Events.{Play, goesOn, after, afterTaking, withScan, samplePlayed, nearPlayed}
 use Rattle.replay.specs.declared.Session.{Session}
 use Rattle.replay.proofs.Going.{Underway}

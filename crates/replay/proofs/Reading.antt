@@ -10,7 +10,7 @@ use lib.Dec.{leb}
 use lib.Ieee.{Float}
 use borrow.Author.Tests.{le-leb, lt-leb}
 use Rattle.answers.specs.Pick.{pick, both}
-use Rattle.coarse.specs.State.{Buffers}
+use Rattle.scan.specs.State.{Buffers}
 use Rattle.recording.specs.Samples.{admitted, usedUp}
 use Rattle.recording.specs.declared.Header.{Header}
 use Rattle.recording.specs.declared.Lengths.{Lengths}

@@ -6,22 +6,22 @@ use lib.Ieee.{Float}
 use lib.ListN.{length, length-append}
 use Rattle.answers.specs.Pick.{pick, pick-all}
 use Rattle.answers.specs.Numbers.{nextLongCount}
-use Rattle.coarse.specs.Bins.{fullSlack}
-use Rattle.coarse.specs.State.{Buffers}
-use Rattle.coarse.specs.Calls.{pushedFar, pushedNear, observed, rearmed, discarded}
-use Rattle.coarse.specs.Steps.{withLevels}
-use Rattle.coarse.specs.declared.Scan.{Scan}
-use Rattle.coarse.specs.declared.Change.{Change}
-use Rattle.coarse.specs.declared.Change.the-variants as change
-use Rattle.coarse.specs.declared.Taking.{Taking}
-use Rattle.coarse.specs.declared.Taking.the-variants as taking
-use Rattle.coarse.specs.declared.Scoring.{Scoring}
-use Rattle.coarse.specs.declared.Scoring.the-variants as scoring
+use Rattle.scan.specs.Bins.{fullSlack}
+use Rattle.scan.specs.State.{Buffers}
+use Rattle.scan.specs.Calls.{pushedFar, pushedNear, observed, rearmed, discarded}
+use Rattle.scan.specs.Steps.{withLevels}
+use Rattle.scan.specs.declared.Scan.{Scan}
+use Rattle.scan.specs.declared.Change.{Change}
+use Rattle.scan.specs.declared.Change.the-variants as change
+use Rattle.scan.specs.declared.Taking.{Taking}
+use Rattle.scan.specs.declared.Taking.the-variants as taking
+use Rattle.scan.specs.declared.Scoring.{Scoring}
+use Rattle.scan.specs.declared.Scoring.the-variants as scoring
 use Rattle.tracker.specs.Tracker.{seamed}
 use Rattle.tracker.specs.declared.Answer.{Answer}
 use Rattle.tracker.specs.declared.Answer.the-variants as answer
-use Rattle.lines.specs.declared.Line.{Line}
-use Rattle.lines.proofs.Answers.{line-short}
+use Rattle.log_lines.specs.declared.Line.{Line}
+use Rattle.log_lines.proofs.Answers.{line-short}
 use Rattle.recording.specs.Samples.{admitted}
 use Rattle.recording.specs.declared.Header.{Header}
 use Rattle.recording.specs.declared.Lengths.{Lengths}

@@ -3,11 +3,11 @@ use Prim.Native.Nat.{ℕ}
 use mathlib.Core.Path.{_≡_, refl}
 use mathlib.Core.List.{List, [], _∷_, _++_}
 use Rattle.answers.specs.Pick.{pick}
-use Rattle.coarse.specs.Bins.{geometryOf}
+use Rattle.scan.specs.Bins.{geometryOf}
 use Rattle.tracker.specs.Tracker.{bandsOf, sameBands, stateRefusal, fresh}
 use Rattle.tracker.specs.Cycle.{unconfidentCycle, edgeCycle, jumped, outsideBands, confirmed, landing, contradicts, escalated, outsideCycle, interiorCycle, judged, cycleRefusal, cycled}
-use Rattle.lines.specs.declared.Line.the-variants.{Replay, Cycle, End, BadHeader, BadEvent, BadTotals}
-use Rattle.lines.specs.declared.Verdict.the-variants.{Hold, Move}
+use Rattle.log_lines.specs.declared.Line.the-variants.{Replay, Cycle, End, BadHeader, BadEvent, BadTotals}
+use Rattle.log_lines.specs.declared.Verdict.the-variants.{Hold, Move}
 use Rattle.recording.specs.Bytes.{bytes, numberAt}
 use Rattle.recording.specs.Recording.{opened, eventOf, eventAt}
 use Rattle.recording.specs.Samples.{samplesIn, samplesOf, admitted}

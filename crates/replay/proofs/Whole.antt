@@ -16,12 +16,12 @@ use borrow.Author.Tests.{eq-eqb}
 use Rattle.answers.specs.Pick.{pick, both, pick-true, pick-false}
 use Rattle.answers.specs.Numbers.{allowedRate, allowedCeiling}
 use Rattle.answers.proofs.Passed.{both-true}
-use Rattle.coarse.specs.Bins.{inTable, geometryOf, fullSlack}
-use Rattle.coarse.specs.State.{Buffers}
-use Rattle.coarse.specs.Calls.{allLengths}
-use Rattle.scoring.specs.Observing.{lent}
-use Rattle.lines.specs.declared.Line.{Line}
-use Rattle.lines.specs.declared.Line.the-variants as line
+use Rattle.scan.specs.Bins.{inTable, geometryOf, fullSlack}
+use Rattle.scan.specs.State.{Buffers}
+use Rattle.scan.specs.Calls.{allLengths}
+use Rattle.scan_score.specs.Observing.{lent}
+use Rattle.log_lines.specs.declared.Line.{Line}
+use Rattle.log_lines.specs.declared.Line.the-variants as line
 use Rattle.recording.specs.Recording.{opened, u32At, headerAt}
 use Rattle.recording.specs.declared.Header.{Header}
 use Rattle.recording.specs.declared.Lengths.{Lengths}

@@ -7,22 +7,22 @@ use Rattle.answers.specs.Pick.{pick}
 use Rattle.answers.specs.Numbers.{nextLongCount}
 use Rattle.units.specs.Units.{samples}
 use Rattle.units.specs.declared.Samples.{Samples}
-use Rattle.coarse.specs.Bins.{fullSlack}
-use Rattle.coarse.specs.State.{Buffers, World}
-use Rattle.coarse.specs.Calls.{pushedFar, pushedNear, observed, rearmed, discarded, FarPush, Clearing}
-use Rattle.coarse.specs.Steps.{withEnvelope, withLevels, withLagSums}
-use Rattle.coarse.specs.declared.Scan.{Scan}
-use Rattle.coarse.specs.declared.Taking.{Taking}
-use Rattle.coarse.specs.declared.Taking.the-variants as taking
-use Rattle.coarse.specs.declared.Scoring.{Scoring}
-use Rattle.coarse.specs.declared.Scoring.the-variants as scoring
+use Rattle.scan.specs.Bins.{fullSlack}
+use Rattle.scan.specs.State.{Buffers, World}
+use Rattle.scan.specs.Calls.{pushedFar, pushedNear, observed, rearmed, discarded, FarPush, Clearing}
+use Rattle.scan.specs.Steps.{withEnvelope, withLevels, withLagSums}
+use Rattle.scan.specs.declared.Scan.{Scan}
+use Rattle.scan.specs.declared.Taking.{Taking}
+use Rattle.scan.specs.declared.Taking.the-variants as taking
+use Rattle.scan.specs.declared.Scoring.{Scoring}
+use Rattle.scan.specs.declared.Scoring.the-variants as scoring
 use Rattle.tracker.specs.Tracker.{seamed}
 use Rattle.tracker.specs.Cycle.{cycled}
 use Rattle.tracker.specs.declared.Tracker.{Tracker}
 use Rattle.tracker.specs.declared.Outcome.{Outcome}
 use Rattle.tracker.specs.declared.Outcome.the-variants as outcome
-use Rattle.lines.specs.declared.Line.{Line}
-use Rattle.lines.specs.declared.Line.the-variants as line
+use Rattle.log_lines.specs.declared.Line.{Line}
+use Rattle.log_lines.specs.declared.Line.the-variants as line
 use Rattle.recording.specs.Samples.{admitted}
 use Rattle.recording.specs.declared.Header.{Header}
 use Rattle.recording.specs.declared.Lengths.{Lengths}

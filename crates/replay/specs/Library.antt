@@ -5,10 +5,10 @@ use lib.Dec.{leb}
 use lib.Ieee.{Float}
 use lib.ListN.{length, drop}
 use Rattle.answers.specs.Pick.{pick}
-use Rattle.answers.specs.Refusals.{require, unless, none, outsideTable, wrongLength}
-use Rattle.coarse.specs.Bins.{inTable, geometryOf, fullSlack}
-use Rattle.coarse.specs.State.{Buffers}
-use Rattle.coarse.specs.Calls.{allLengths}
+use Rattle.answers.specs.Refusals.{require, ifRefused, none, outsideTable, wrongLength}
+use Rattle.scan.specs.Bins.{inTable, geometryOf, fullSlack}
+use Rattle.scan.specs.State.{Buffers}
+use Rattle.scan.specs.Calls.{allLengths}
 use Rattle.recording.specs.declared.Header.{Header}
 use Rattle.recording.specs.declared.Lengths.{Lengths}
 use Rattle.recording.specs.declared.Entry.{Entry}
@@ -41,7 +41,7 @@ startRefusal rate ceiling b =
 unfoldable pub begins : Header → Buffers → Beginning
 begins h b =
     let n = startRefusal (h .rate) (h .ceiling) b in
-    unless n
+    ifRefused n
     (beginning (begun.Refused n) b)
     (beginning (begun.Ready (newSession (h .rate) (h .ceiling))) (clearBuffers (geometryOf (h .rate) (h .ceiling))))
 

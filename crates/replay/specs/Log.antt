@@ -6,13 +6,13 @@ use lib.ListN.{length}
 use lib.Ieee.{Float}
 use Rattle.answers.specs.Pick.{pick, both}
 use Rattle.folds.specs.Sums.{zeros}
-use Rattle.coarse.specs.Bins.{geometryOf, fullSlack, envelopeLen, nearLen, windowLen, prefixLen, lags}
-use Rattle.coarse.specs.State.{Buffers, newScan}
-use Rattle.coarse.specs.declared.Geometry.{Geometry}
+use Rattle.scan.specs.Bins.{geometryOf, fullSlack, envelopeLen, nearLen, windowLen, prefixLen, lags}
+use Rattle.scan.specs.State.{Buffers, newScan}
+use Rattle.scan.specs.declared.Geometry.{Geometry}
 use Rattle.tracker.specs.Tracker.{fresh}
-use Rattle.lines.specs.Lines.{textOf}
-use Rattle.lines.specs.declared.Line.{Line}
-use Rattle.lines.specs.declared.Line.the-variants as line
+use Rattle.log_lines.specs.Lines.{textOf}
+use Rattle.log_lines.specs.declared.Line.{Line}
+use Rattle.log_lines.specs.declared.Line.the-variants as line
 use Rattle.recording.specs.Recording.{opened, eventAt}
 use Rattle.recording.specs.Samples.{samplesIn, samplesOf, usedUp}
 use Rattle.recording.specs.declared.Header.{Header}

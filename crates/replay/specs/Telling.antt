@@ -3,9 +3,9 @@ use Prim.Native.Nat.{ℕ}
 use mathlib.Core.Path.{_≡_}
 use mathlib.Core.Bool.{Bool}
 use mathlib.Core.List.{List}
-use Rattle.coarse.specs.State.{Buffers}
-use Rattle.lines.specs.Steps.{Put}
-use Rattle.lines.specs.declared.Line.{Line}
+use Rattle.scan.specs.State.{Buffers}
+use Rattle.log_lines.specs.Steps.{Put}
+use Rattle.log_lines.specs.declared.Line.{Line}
 use Rattle.replay.specs.Log.{logText}
 use Rattle.replay.specs.Events.{Play}
 use Rattle.replay.specs.declared.Session.{Session}

@@ -3,23 +3,23 @@ use Prim.Native.Nat.{ℕ}
 use mathlib.Core.List.{List, [], _∷_}
 use lib.Ieee.{binary32, binary64, toBits}
 use Rattle.answers.specs.Numbers.{nextLongCount}
-use Rattle.coarse.specs.declared.Change.{Change}
-use Rattle.coarse.specs.declared.Change.the-variants as change
-use Rattle.coarse.specs.declared.Frame.{Frame}
-use Rattle.coarse.specs.declared.Frame.the-variants as frame
+use Rattle.scan.specs.declared.Change.{Change}
+use Rattle.scan.specs.declared.Change.the-variants as change
+use Rattle.scan.specs.declared.Frame.{Frame}
+use Rattle.scan.specs.declared.Frame.the-variants as frame
 use Rattle.tracker.specs.declared.Answer.{Answer}
 use Rattle.tracker.specs.declared.Answer.the-variants as answer
 use Rattle.tracker.specs.declared.Trigger.{Trigger}
 use Rattle.tracker.specs.declared.Trigger.the-variants as trigger
 use Rattle.tracker.specs.declared.Verdict.{Verdict}
 use Rattle.tracker.specs.declared.Verdict.the-variants as verdict
-use Rattle.lines.specs.declared.Line.{Line}
-use Rattle.lines.specs.declared.Line.the-variants as line
-use Rattle.lines.specs.declared.Word.{Word}
-use Rattle.lines.specs.declared.Word.the-variants as word
-use Rattle.lines.specs.declared.Trigger as logged
-use Rattle.lines.specs.declared.Trigger.the-variants as loggedTrigger
-use Rattle.lines.specs.declared.Verdict.the-variants as loggedVerdict
+use Rattle.log_lines.specs.declared.Line.{Line}
+use Rattle.log_lines.specs.declared.Line.the-variants as line
+use Rattle.log_lines.specs.declared.Word.{Word}
+use Rattle.log_lines.specs.declared.Word.the-variants as word
+use Rattle.log_lines.specs.declared.Trigger as logged
+use Rattle.log_lines.specs.declared.Trigger.the-variants as loggedTrigger
+use Rattle.log_lines.specs.declared.Verdict.the-variants as loggedVerdict
 
 -- frame words; floats are bit patterns
 unfoldable pub wordOf : Frame → Word

@@ -2,20 +2,20 @@
 use crate::Session;
 use crate::Told;
 use crate::words;
-use coarse::Change;
-use coarse::Changed;
-use coarse::Scan;
-use coarse::Scored;
-use coarse::Scoring;
-use coarse::Taking;
-use lines::Line;
-use lines::Written;
+use log_lines::Line;
+use log_lines::Written;
 use recording::Admission;
 use recording::Entry;
 use recording::Event;
 use recording::Header;
 use recording::Lengths;
 use recording::Used;
+use scan::Change;
+use scan::Changed;
+use scan::Scan;
+use scan::Scored;
+use scan::Scoring;
+use scan::Taking;
 use tracker::Answer;
 use tracker::Outcome;
 use tracker::Tracker;
@@ -25,19 +25,19 @@ ghost use mathlib.Core.Bool.{true, false};
 ghost use mathlib.Core.List.{[], _∷_};
 ghost use Prim.Native.Nat.{_+_, _-_, _*_, _^_, _≤_, min};
 ghost use lib.ListN.{length};
-ghost use Rattle.lines.specs.Steps.{Put};
-ghost use Rattle.lines.specs.declared.Line.the-variants as line;
+ghost use Rattle.log_lines.specs.Steps.{Put};
+ghost use Rattle.log_lines.specs.declared.Line.the-variants as line;
 ghost use Rattle.replay.specs.Words.{changeLines, answerLines, cycleLine, cyclesAfter};
-ghost use Rattle.coarse.specs.Bins.{fullSlack};
-ghost use Rattle.coarse.specs.State.{Buffers};
-ghost use Rattle.coarse.specs.Calls.{pushedFar};
-ghost use Rattle.scoring.specs.Observing.{lent};
+ghost use Rattle.scan.specs.Bins.{fullSlack};
+ghost use Rattle.scan.specs.State.{Buffers};
+ghost use Rattle.scan.specs.Calls.{pushedFar};
+ghost use Rattle.scan_score.specs.Observing.{lent};
 ghost use Rattle.replay.specs.Events.{withScan, withFrame, withTracker, afterScore, scorePlayed, samplePlayed, nearPlayed, eventPlayed, withUsed, stepped};
 ghost use Rattle.replay.specs.Log.{logText};
 ghost use Rattle.replay.specs.Telling.{Tells, Plays};
 ghost use Rattle.tracker.specs.Tracker.{seamed};
 ghost use Rattle.tracker.specs.Cycle.{cycled};
-ghost use Rattle.runs.specs.Runs.{ran};
+ghost use Rattle.scan_runs.specs.Runs.{ran};
 
 // ---- lines
 
@@ -46,7 +46,7 @@ pub fn log(out: &mut [u8], at: usize, line: Line) -> usize
     requires { ⌜ at + 76 ≤ length (now out) ⌝ }
     ensures { λ r. ⌜ Put (now (out .entry)) at (logText (line ∷ [])) (now (out .exit)) r × (r ≤ at + 76) ⌝ }
 {
-    match lines::write_line(line, &mut out[at..]) {
+    match log_lines::write_line(line, &mut out[at..]) {
         Written::NoRoom => at,
         Written::Bytes(n) => {
             let end = at + n;
@@ -248,7 +248,7 @@ fn score(
     ensures room { λ r. ⌜ r .at ≤ at + 76 ⌝ }
 {
     let before = session.scan;
-    let seen = scoring::observe(
+    let seen = scan_score::observe(
         before,
         envelope,
         levels,
@@ -282,7 +282,7 @@ fn sample(
     ensures room { λ r. ⌜ r .at ≤ at + 76 ⌝ }
 {
     let before = session.scan;
-    let took = blocks::push_near(before, levels, x, index);
+    let took = scan_push::push_near(before, levels, x, index);
     let after = took.scan;
     let next = with_scan(session, after);
     let answer = took.answer;
@@ -349,7 +349,7 @@ fn pass(session: Session, levels: &mut [f32], samples: &[f32], first: u64) -> Pa
     ensures levels { λ r. ⌜ now (levels .exit) ≡ ran (session .scan) (now (levels .entry)) (now (samples .entry)) first .levels ⌝ }
 {
     let before = session.scan;
-    let run = runs::push_near_run(before, levels, samples, first);
+    let run = scan_runs::push_near_run(before, levels, samples, first);
     let after = run.scan;
     let count = run.passed;
     Passed {
@@ -431,7 +431,7 @@ fn push_whole(scan: Scan, envelope: &mut [f32], samples: &[f32]) -> Changed
     ensures changed { λ r. ⌜ r ≡ pushedFar fullSlack scan (now (envelope .entry)) (now (samples .entry)) .changed ⌝ }
     ensures envelope { λ r. ⌜ now (envelope .exit) ≡ pushedFar fullSlack scan (now (envelope .entry)) (now (samples .entry)) .envelope ⌝ }
 {
-    blocks::push_far(scan, envelope, samples)
+    scan_push::push_far(scan, envelope, samples)
 }
 
 fn with_used(session: Session, used: Used) -> Session
@@ -503,11 +503,11 @@ fn play(
             goes_on(told)
         }
         Event::Rearm => {
-            let change = scan::rearm(before, lag_sums);
+            let change = scan_calls::rearm(before, lag_sums);
             changed(number, session, used, change, out)
         }
         Event::DiscardNear => {
-            let change = scan::discard_near(before, lag_sums);
+            let change = scan_calls::discard_near(before, lag_sums);
             changed(number, session, used, change, out)
         }
         Event::Unconfident => cycle(number, session, used, Samples(0), Outcome::Unconfident, out),

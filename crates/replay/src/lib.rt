@@ -3,18 +3,18 @@ pub mod words; // how the answers of scan and tracker read in a log
 pub mod events; // what the events do
 pub mod starting; // the session and the buffers before the first event
 
-use coarse::Scan;
-use lines::Line;
+use log_lines::Line;
 use recording::Entry;
 use recording::Header;
 use recording::Lengths;
 use recording::Used;
+use scan::Scan;
 use tracker::Tracker;
 ghost use mathlib.Core.Path.{_≡_};
-ghost use Rattle.lines.specs.declared.Line.the-variants as line;
+ghost use Rattle.log_lines.specs.declared.Line.the-variants as line;
 ghost use Rattle.answers.specs.Pick.{pick};
 ghost use Rattle.replay.specs.declared.Progress.the-variants as progress;
-ghost use Rattle.scoring.specs.Observing.{lent};
+ghost use Rattle.scan_score.specs.Observing.{lent};
 ghost use Rattle.replay.specs.Log;
 ghost use Rattle.replay.specs.Library.{beginning, begins, logged, evented};
 

@@ -1,14 +1,14 @@
 // What the first event finds: the lent buffers judged and cleared, a new session.
 use crate::Session;
 use recording::Used;
-use scan::rules;
+use scan_calls::rules;
 use tracker::Tracker;
 ghost use mathlib.Core.Path.{_≡_};
 ghost use mathlib.Core.Bool.{true};
 ghost use lib.ListN.{length};
 ghost use Rattle.folds.specs.Sums.{zeros};
-ghost use Rattle.coarse.specs.Bins.{inTable};
-ghost use Rattle.scoring.specs.Observing.{lent};
+ghost use Rattle.scan.specs.Bins.{inTable};
+ghost use Rattle.scan_score.specs.Observing.{lent};
 ghost use Rattle.replay.specs.Log.{newSession};
 ghost use Rattle.replay.specs.Library.{startRefusal};
 
@@ -30,8 +30,8 @@ pub fn refusal(
         return answers::OUTSIDE_TABLE;
     }
     let g = rules::geometry_of(rate, ceiling);
-    if !scoring::refusal::all_lengths(
-        scan::SLACK,
+    if !scan_score::refusal::all_lengths(
+        scan_calls::SLACK,
         g,
         envelope,
         levels,
@@ -70,7 +70,7 @@ pub fn new_session(rate: u32, ceiling: u32) -> Session
     requires { ⌜ inTable rate ceiling ≡ true ⌝ }
     ensures { λ r. ⌜ r ≡ newSession rate ceiling ⌝ }
 {
-    let scan = scan::parts::new_scan(rate, ceiling);
+    let scan = scan_calls::parts::new_scan(rate, ceiling);
     let made = Tracker::new(rate);
     let tracker = made.tracker;
     let used = Used { far: 0, near: 0 };

@@ -1,7 +1,7 @@
 // How the answers of scan and tracker read in a log.
-use coarse::Frame;
-use lines::Line;
-use lines::Word;
+use log_lines::Line;
+use log_lines::Word;
+use scan::Frame;
 use tracker::Trigger;
 use tracker::Verdict;
 ghost use mathlib.Core.Path.{_≡_};
@@ -43,14 +43,14 @@ pub fn word_of(frame: Frame) -> Word
     }
 }
 
-fn trigger_of(trigger: Trigger) -> lines::Trigger
+fn trigger_of(trigger: Trigger) -> log_lines::Trigger
     ensures { λ r. ⌜ r ≡ triggerOf trigger ⌝ }
 {
     match trigger {
-        Trigger::Edge => lines::Trigger::Edge,
-        Trigger::Lost => lines::Trigger::Lost,
-        Trigger::Jump => lines::Trigger::Jump,
-        Trigger::Seam => lines::Trigger::Seam,
+        Trigger::Edge => log_lines::Trigger::Edge,
+        Trigger::Lost => log_lines::Trigger::Lost,
+        Trigger::Jump => log_lines::Trigger::Jump,
+        Trigger::Seam => log_lines::Trigger::Seam,
     }
 }
 
@@ -59,11 +59,11 @@ pub fn cycle_line(event: u32, cycle: u64, verdict: Verdict) -> Line
 {
     match verdict {
         Verdict::Refused(number) => Line::Refused(event, number),
-        Verdict::Hold => Line::Cycle(cycle, lines::Verdict::Hold),
-        Verdict::Move(alignment) => Line::Cycle(cycle, lines::Verdict::Move(alignment.0)),
+        Verdict::Hold => Line::Cycle(cycle, log_lines::Verdict::Hold),
+        Verdict::Move(alignment) => Line::Cycle(cycle, log_lines::Verdict::Move(alignment.0)),
         Verdict::Reacquire(trigger) => Line::Cycle(
             cycle,
-            lines::Verdict::Reacquire(trigger_of(trigger)),
+            log_lines::Verdict::Reacquire(trigger_of(trigger)),
         ),
     }
 }

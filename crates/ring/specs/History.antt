@@ -3,7 +3,7 @@ use Prim.Native.Nat.{ℕ, zero, suc, _+_, _≤_, _<_}
 use mathlib.Core.Path.{_≡_}
 use mathlib.Core.List.{List, [], _∷_, _++_}
 use lib.ListN.{length, getD}
-use Rattle.answers.specs.Refusals.{unless}
+use Rattle.answers.specs.Refusals.{ifRefused}
 use Rattle.ring.specs.declared.Ring.{Ring}
 use Rattle.ring.specs.declared.Kept.{Kept}
 use Rattle.ring.specs.declared.Kept.the-variants.{Refused, NotKept, At}
@@ -32,7 +32,7 @@ pushes l (xs ∷ more) = pushes (push l xs) more
 
 -- the samples of one push that are accepted: all of them or none
 abbrev pub taken : Lent → List ℕ → List ℕ
-taken l xs = unless (pushRefusal (l .ring) (capacity l) (length xs)) [] xs
+taken l xs = ifRefused (pushRefusal (l .ring) (capacity l) (length xs)) [] xs
 
 -- the accepted samples of all pushes, one after the other
 abbrev pub accepted : Lent → List (List ℕ) → List ℕ

@@ -6,7 +6,7 @@ use lib.ListN.{length, set}
 use lib.Dec.{ltb, leb}
 use Rattle.answers.specs.Numbers.{limit}
 use Rattle.answers.specs.Pick.{pick, both}
-use Rattle.answers.specs.Refusals.{none, wrongLength, brokenState, tooLarge, require, before, unless}
+use Rattle.answers.specs.Refusals.{none, wrongLength, brokenState, tooLarge, require, before, ifRefused}
 use Rattle.ring.specs.declared.Ring.{Ring}
 use Rattle.ring.specs.declared.Answer.the-variants as answer
 use Rattle.ring.specs.declared.Changed.{Changed}
@@ -34,13 +34,13 @@ pushRefusal r capacity more =
 -- the ring and the answer of a call that may change it
 unfoldable pub changed : Ring → ℕ → Ring → Changed
 changed given refusal next =
-    unless refusal
+    ifRefused refusal
     (record { ring = given; answer = answer.Refused refusal })
     (record { ring = next; answer = answer.Done })
 
 -- the answer of a call that counts
 unfoldable pub counted : ℕ → ℕ → Count
-counted refusal n = unless refusal (count.Refused refusal) (count.Is n)
+counted refusal n = ifRefused refusal (count.Refused refusal) (count.Is n)
 
 -- ---- the calls
 
@@ -60,7 +60,7 @@ abbrev pub pushed : Ring → ℕ → ℕ → Changed
 pushed r capacity more = changed r (pushRefusal r capacity more) (record { accepted = r .accepted + more })
 
 unfoldable pub pushedBuf : Ring → List ℕ → List ℕ → List ℕ
-pushedBuf r buf xs = unless (pushRefusal r (length buf) (length xs)) buf (stored (r .accepted) buf xs)
+pushedBuf r buf xs = ifRefused (pushRefusal r (length buf) (length xs)) buf (stored (r .accepted) buf xs)
 
 -- `oldest_retained`: the number of samples dropped, and so the oldest index that is kept
 abbrev pub oldest : Ring → ℕ → ℕ
@@ -72,7 +72,7 @@ isKept r capacity a = both (leb (oldest r capacity) a) (ltb a (r .accepted))
 
 unfoldable pub gotten : Ring → ℕ → ℕ → Kept
 gotten r capacity a =
-    unless (ringRefusal r capacity)
+    ifRefused (ringRefusal r capacity)
     (kept.Refused (ringRefusal r capacity))
     (pick (isKept r capacity a) (kept.At (a % capacity)) kept.NotKept)
 

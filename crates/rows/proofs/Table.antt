@@ -12,8 +12,8 @@ use Rattle.units.specs.Units.{bins, samples}
 use Rattle.floats.specs.Functions.{zero64, magnitude, narrowBits, rootBits, narrow, root, rootRatio, wholeRoot, isqrt}
 use Rattle.folds.specs.Sums.{upto, allFinite}
 use Rattle.folds.specs.Search.{searchUp}
-use Rattle.coarse.specs.Bins.{geometryOf}
-use Rattle.coarse.specs.Scoring.{atCeiling}
+use Rattle.scan.specs.Bins.{geometryOf}
+use Rattle.scan.specs.Scoring.{atCeiling}
 use Rattle.tracker.specs.declared.Delay.the-variants.{Nothing}
 use Rattle.tracker.specs.declared.Outcome.{Outcome}
 use Rattle.tracker.specs.declared.Outcome.the-variants.{Candidate, Unconfident}
@@ -25,9 +25,9 @@ use Rattle.tracker.specs.Told.{hold, moveTo, verdictTold}
 use Rattle.fine.specs.State.{doubledTo, transformOf, lengthsOf, newWith, sameLengths, keepsRules, firstRefusals}
 use Rattle.fine.specs.Calls.{changed, makingRefusal, made, relocateRefusal, relocated}
 use Rattle.fine.specs.Calls as fine
-use Rattle.peaks.specs.Peak.{heightsOf, ratioOf, weak, ruled, peakRefusal, searched}
-use Rattle.peaks.specs.declared.PeakAnswer.{PeakAnswer}
-use Rattle.peaks.specs.declared.PeakAnswer.the-variants as peakAnswer
+use Rattle.fine_peak.specs.Peak.{heightsOf, ratioOf, weak, ruled, peakRefusal, searched}
+use Rattle.fine_peak.specs.declared.PeakAnswer.{PeakAnswer}
+use Rattle.fine_peak.specs.declared.PeakAnswer.the-variants as peakAnswer
 
 -- ---- what a row says
 

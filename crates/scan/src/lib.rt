@@ -1,59 +1,156 @@
-// The coarse scan's state: it is made, reset, rearmed, and asked what it found. No call has a `requires`; what each of them does is defined in crate coarse.
-// The modules have the functions behind the calls; `reports` has the calls that only report.
-pub mod rules; // refusals 1, 2 and 3, which every call begins with
-pub mod parts; // the parts of a state, as new and exchanged
-pub mod restart; // a making and a reset
-pub mod clearing; // rearm and discard_near
-pub mod reports; // what a scan reports
+// The coarse scan: its state and answers. The calls stand in the crates above; what each of them does is defined in specs/.
+// One far history, one near frame, one verdict: each is a struct of its own.
+use units::Samples;
 
-use coarse::Changed;
-use coarse::Near;
-use coarse::Scan;
-ghost use mathlib.Core.Path.{_≡_};
-ghost use Rattle.coarse.specs.Bins.{fullSlack};
-ghost use Rattle.coarse.specs.Calls.{made, wasReset, rearmed, discarded};
+// The Rust's constants, by its names. specs/Bins.antt and specs/Scoring.antt say what each is for.
+pub const COARSE_FRAME_MS: u32 = 256;
 
-// How many bins the far envelope keeps beyond the window.
-pub const SLACK: u32 = 4000;
+pub const COARSE_MIN_FRAMES: u32 = 4;
 
-// A new scan. Refused, it is the one for rate 8,000 and ceiling 1.
-pub fn new(rate: u32, ceiling: u32, envelope: &mut [f32], lag_sums: &mut [f64]) -> Changed
-    ensures changed { λ r. ⌜ r ≡ made fullSlack rate ceiling (now (envelope .entry)) (now («lag_sums» .entry)) .changed ⌝ }
-    ensures envelope { λ r. ⌜ now (envelope .exit) ≡ made fullSlack rate ceiling (now (envelope .entry)) (now («lag_sums» .entry)) .envelope ⌝ }
-    ensures sums { λ r. ⌜ now («lag_sums» .exit) ≡ made fullSlack rate ceiling (now (envelope .entry)) (now («lag_sums» .entry)) .lagSums ⌝ }
-{
-    restart::make(SLACK, rate, ceiling, envelope, lag_sums)
+pub const COARSE_CONFIDENT_CORR: f64 = 0.25;
+
+pub const COARSE_SIDELOBE_RATIO: f64 = 1.5;
+
+pub const COARSE_PEAK_GUARD_MS: u32 = 30;
+
+pub const COARSE_CEILING_GUARD_MS: u32 = 8;
+
+pub const COARSE_GIVE_UP_FRAMES: u32 = 64;
+
+pub const COARSE_TAIL_DEFICIT_DEN: u64 = 4;
+
+// What follows from the rate and the ceiling. Span, frame and guards are in bins.
+pub struct Geometry {
+    pub rate: u32,
+    pub ceiling: u32,
+    pub decimation: u64,
+    pub bin_rate: u64,
+    pub span: u64,
+    pub frame: u64,
+    pub ceiling_guard: u64,
+    pub peak_guard: u64,
 }
 
-// The scan as it was made.
-pub fn reset(scan: Scan, envelope: &mut [f32], lag_sums: &mut [f64]) -> Changed
-    ensures changed { λ r. ⌜ r ≡ wasReset fullSlack scan (now (envelope .entry)) (now («lag_sums» .entry)) .changed ⌝ }
-    ensures envelope { λ r. ⌜ now (envelope .exit) ≡ wasReset fullSlack scan (now (envelope .entry)) (now («lag_sums» .entry)) .envelope ⌝ }
-    ensures sums { λ r. ⌜ now («lag_sums» .exit) ≡ wasReset fullSlack scan (now (envelope .entry)) (now («lag_sums» .entry)) .lagSums ⌝ }
-{
-    restart::reset(SLACK, scan, envelope, lag_sums)
+// The far history: the next block, its running sum and partial count, and the samples accepted in all.
+pub struct Far {
+    pub next: u64,
+    pub sum: f64,
+    pub count: u64,
+    pub accepted: u64,
 }
 
-// The search begins anew, on the far history as it stands.
-pub fn rearm(scan: Scan, lag_sums: &mut [f64]) -> Changed
-    ensures changed { λ r. ⌜ r ≡ rearmed scan (now («lag_sums» .entry)) .changed ⌝ }
-    ensures sums { λ r. ⌜ now («lag_sums» .exit) ≡ rearmed scan (now («lag_sums» .entry)) .lagSums ⌝ }
-{
-    clearing::clear(scan, lag_sums, parts::searching_anew(scan))
+// The near frame under way: the bins it has, the running sum and partial count of the next one, and the frame's first bin.
+pub struct Near {
+    pub len: u64,
+    pub sum: f64,
+    pub count: u64,
+    pub first: u64,
 }
 
-// The near frame but for its first bin, and the frames banked; the frames counted, the last peak, the region and the flags stay.
-pub fn discard_near(scan: Scan, lag_sums: &mut [f64]) -> Changed
-    ensures changed { λ r. ⌜ r ≡ discarded scan (now («lag_sums» .entry)) .changed ⌝ }
-    ensures sums { λ r. ⌜ now («lag_sums» .exit) ≡ discarded scan (now («lag_sums» .entry)) .lagSums ⌝ }
-{
-    let near = Near {
-        len: 0,
-        sum: 0.0,
-        count: 0,
-        first: scan.near.first,
-    };
-    let verdict = scan.verdict;
-    let cleared = parts::with_near_verdict(scan, near, parts::unbank(verdict));
-    clearing::clear(scan, lag_sums, cleared)
+// Where the echo lives: a delay in native samples, and its averaged correlation.
+pub struct Region {
+    pub delay: Samples,
+    pub correlation: f64,
+}
+
+pub enum Found {
+    Nothing,
+    At(Region),
+}
+
+// What the frames so far came to: the frames banked into the lag sums and those counted, the last frame's peak, the region if one was found,
+// whether a peak stood at the ceiling, and whether the scan has given up.
+pub struct Verdict {
+    pub banked: u32,
+    pub frames: u32,
+    pub last: f32,
+    pub found: Found,
+    pub beyond: bool,
+    pub exhausted: bool,
+}
+
+pub struct Scan {
+    pub geometry: Geometry,
+    pub far: Far,
+    pub near: Near,
+    pub verdict: Verdict,
+}
+
+// ---- answers. A refusal carries its number of document 01.
+
+// A frame's answer: one case of nine.
+pub enum Frame {
+    Uncovered,
+    Ahead,
+    Quiet,
+    Flat,
+    Banked(f32),
+    Weak,
+    Ceiling,
+    Crowded,
+    Region(Region),
+}
+
+// Of a making, a far push, a rearm, a discard and a reset.
+pub enum Change {
+    Refused(u8),
+    Done,
+}
+
+// Of a near sample: ignored by a finished scan, dropped before a frame's first multiple of the decimation, taken, or taken as the frame's last.
+pub enum Taking {
+    Refused(u8),
+    Ignored,
+    Dropped,
+    Taken,
+    Full,
+}
+
+// Of a frame to be scored.
+pub enum Scoring {
+    Refused(u8),
+    Frame(Frame),
+}
+
+// Of a report.
+pub enum RegionReport {
+    Refused(u8),
+    Is(Found),
+}
+
+pub enum FlagReport {
+    Refused(u8),
+    Is(bool),
+}
+
+pub enum CountReport {
+    Refused(u8),
+    Is(u32),
+}
+
+pub enum LevelReport {
+    Refused(u8),
+    Is(f32),
+}
+
+pub enum SamplesReport {
+    Refused(u8),
+    Is(Samples),
+}
+
+// ---- the state that comes back, with the answer
+
+pub struct Changed {
+    pub scan: Scan,
+    pub answer: Change,
+}
+
+pub struct Took {
+    pub scan: Scan,
+    pub answer: Taking,
+}
+
+pub struct Scored {
+    pub scan: Scan,
+    pub answer: Scoring,
 }

@@ -1,40 +1,34 @@
 // The calls of records.
-use crate::records;
-use crate::records::Call;
-use coarse::Change;
-use coarse::Changed;
-use coarse::Found;
-use coarse::Frame;
-use coarse::Region;
-use coarse::Scan;
-use coarse::Scored;
-use coarse::Scoring;
-use coarse::Taking;
-use coarse::Took;
-use coarse::Verdict;
+use scan::Change;
+use scan::Changed;
+use scan::Found;
+use scan::Frame;
+use scan::Region;
+use scan::Scan;
+use scan::Scored;
+use scan::Scoring;
+use scan::Taking;
+use scan::Took;
+use scan::Verdict;
+use scan_vectors::buffers;
+use scan_vectors::buffers::Buffers;
+use scan_vectors::buffers::Lengths;
+use scan_vectors::made_up;
+use scan_vectors::records;
+use scan_vectors::records::Call;
+use scan_vectors::records::Done;
+use scan_vectors::records::OTHER;
+use scan_vectors::records::Record;
+use vectors::buffers::at_most;
 ghost use mathlib.Core.Path.{_≡_};
 ghost use lib.ListN.{length};
 
-// The scan after a call, and the answer as a record has it.
-pub struct Done {
-    pub scan: Scan,
-    pub answer: u64,
-}
-
-// No record has it: a refusal, or an answer whose values are not those of the state.
-const OTHER: u64 = 99;
-
 // ---- a making, a far push, rearm, discard_near and reset
 
-fn changed(c: Changed) -> Done {
-    let scan = c.scan;
-    let answer = c.answer;
+fn change_number(answer: Change) -> u64 {
     match answer {
-        Change::Refused(_) => Done {
-            scan,
-            answer: OTHER,
-        },
-        Change::Done => Done { scan, answer: 0 },
+        Change::Refused(_) => OTHER,
+        Change::Done => 0,
     }
 }
 
@@ -44,60 +38,86 @@ fn samples49152() -> [f32; 49152]
     [0.0; 49152]
 }
 
-fn push_filled(scan: Scan, envelope: &mut [f32], samples: &mut [f32], call: Call) -> Done {
+fn push_filled(scan: Scan, envelope: &mut [f32], samples: &mut [f32], call: Call) -> Changed {
     let signal = call.signal;
     signal.fill(&mut *samples, call.place);
-    changed(blocks::push_far(scan, envelope, samples))
+    scan_push::push_far(scan, envelope, samples)
 }
 
-fn push_counted(scan: Scan, envelope: &mut [f32], samples: &mut [f32], call: Call) -> Done {
-    let n = records::at_most(call.count as u64, samples.len());
+fn push_counted(scan: Scan, envelope: &mut [f32], samples: &mut [f32], call: Call) -> Changed {
+    let n = at_most(call.count as u64, samples.len());
     push_filled(scan, envelope, &mut samples[..n], call)
 }
 
-fn push_far(scan: Scan, envelope: &mut [f32], call: Call) -> Done {
+fn push_far(scan: Scan, envelope: &mut [f32], record: &Record) -> Changed {
     let mut samples = samples49152();
-    push_counted(scan, envelope, &mut samples, call)
+    push_counted(scan, envelope, &mut samples, records::call_of(record))
 }
 
-fn blank(window: &mut [f32], prefix: &mut [f64], squares: &mut [f64], scores: &mut [f64]) {
-    folds::clear32(window);
-    folds::clear64(prefix);
-    folds::clear64(squares);
-    folds::clear64(scores);
-}
-
-fn new_scan(envelope: &mut [f32], sums: &mut [f64], call: Call) -> Done {
-    let ceiling = (call.number % 0x1_0000_0000) as u32;
-    changed(scan::new(call.count, ceiling, envelope, sums))
-}
-
-// Every buffer is all 0. The making itself writes the envelope and the lag sums.
-pub fn make(
-    envelope: &mut [f32],
-    window: &mut [f32],
-    prefix: &mut [f64],
-    squares: &mut [f64],
-    scores: &mut [f64],
-    sums: &mut [f64],
-    call: Call,
-) -> Done {
-    blank(window, prefix, squares, scores);
-    new_scan(envelope, sums, call)
+fn new_scan(envelope: &mut [f32], sums: &mut [f64], record: &Record) -> Changed {
+    scan_calls::new(
+        vectors::number32(record, 4),
+        vectors::number32(record, 8),
+        envelope,
+        sums,
+    )
 }
 
 // A call that is lent the envelope and the lag sums at most.
-pub fn change(scan: Scan, envelope: &mut [f32], sums: &mut [f64], call: Call) -> Done {
-    if call.kind == 2 {
-        return push_far(scan, envelope, call);
+fn change(scan: Scan, envelope: &mut [f32], sums: &mut [f64], record: &Record) -> Changed {
+    let kind = records::kind_of(record);
+    if kind == 1 {
+        return new_scan(envelope, sums, record);
     }
-    if call.kind == 5 {
-        return changed(scan::rearm(scan, sums));
+    if kind == 2 {
+        return push_far(scan, envelope, record);
     }
-    if call.kind == 6 {
-        return changed(scan::discard_near(scan, sums));
+    if kind == 5 {
+        return scan_calls::rearm(scan, sums);
     }
-    changed(scan::reset(scan, envelope, sums))
+    if kind == 6 {
+        return scan_calls::discard_near(scan, sums);
+    }
+    scan_calls::reset(scan, envelope, sums)
+}
+
+// The lengths that the scan has, or that the one to be made will have.
+fn lengths_for(scan: Scan, record: &Record) -> Lengths {
+    if records::kind_of(record) == 1 {
+        return buffers::lengths_of(vectors::number32(record, 4), vectors::number32(record, 8));
+    }
+    buffers::lengths_of(scan.geometry.rate, scan.geometry.ceiling)
+}
+
+fn change_lent(scan: Scan, envelope: &mut [f32], sums: &mut [f64], record: &Record) -> Changed {
+    let lengths = lengths_for(scan, record);
+    let kept = at_most(lengths.envelope, envelope.len());
+    let lags = at_most(lengths.lags, sums.len());
+    change(scan, &mut envelope[..kept], &mut sums[..lags], record)
+}
+
+fn change_held(before: Buffers, scan: Scan, record: &Record) -> Done {
+    let mut buffers = before;
+    let mut envelope = buffers.envelope;
+    let mut sums = buffers.sums;
+    let changed = change_lent(scan, &mut envelope, &mut sums, record);
+    buffers.envelope = envelope;
+    buffers.sums = sums;
+    let next = changed.scan;
+    let answer = changed.answer;
+    Done {
+        scan: next,
+        buffers,
+        answer: change_number(answer),
+    }
+}
+
+fn make(before: Buffers, scan: Scan, record: &Record) -> Done {
+    let envelope = before.envelope;
+    let levels = before.levels;
+    let sums = before.sums;
+    let buffers = buffers::blank(envelope, levels, sums);
+    change_held(buffers, scan, record)
 }
 
 // ---- near samples
@@ -112,29 +132,42 @@ fn taking_number(answer: Taking) -> u64 {
     }
 }
 
-fn push_near(scan: Scan, levels: &mut [f32], sample: f32, index: u64) -> Done {
-    let took = blocks::push_near(scan, levels, sample, index);
+// A run of near samples; its answer is that of the last.
+fn push_run(scan: Scan, levels: &mut [f32], call: Call) -> Took {
+    let signal = call.signal;
+    let mut took = Took {
+        scan,
+        answer: Taking::Ignored,
+    };
+    let mut i: u64 = 0;
+    while i < call.count as u64 {
+        let before = took.scan;
+        let sample = signal.at(std::num::wrapping_add_u64(call.place, i));
+        let index = std::num::wrapping_add_u64(call.number, i);
+        took = scan_push::push_near(before, &mut *levels, sample, index);
+        i += 1;
+    }
+    took
+}
+
+fn push_lent(scan: Scan, levels: &mut [f32], record: &Record) -> Took {
+    let lengths = buffers::lengths_of(scan.geometry.rate, scan.geometry.ceiling);
+    let frame = at_most(lengths.frame, levels.len());
+    push_run(scan, &mut levels[..frame], records::call_of(record))
+}
+
+fn push_held(before: Buffers, scan: Scan, record: &Record) -> Done {
+    let mut buffers = before;
+    let mut levels = buffers.levels;
+    let took = push_lent(scan, &mut levels, record);
+    buffers.levels = levels;
     let next = took.scan;
     let answer = took.answer;
     Done {
         scan: next,
+        buffers,
         answer: taking_number(answer),
     }
-}
-
-// A run of near samples; its answer is that of the last.
-pub fn push_run(scan: Scan, levels: &mut [f32], call: Call) -> Done {
-    let signal = call.signal;
-    let mut done = Done { scan, answer: 0 };
-    let mut i: u64 = 0;
-    while i < call.count as u64 {
-        let before = done.scan;
-        let sample = signal.at(std::num::wrapping_add_u64(call.place, i));
-        let index = std::num::wrapping_add_u64(call.number, i);
-        done = push_near(before, &mut *levels, sample, index);
-        i += 1;
-    }
-    done
 }
 
 // ---- a frame to be scored
@@ -185,7 +218,7 @@ fn scored_number(answer: Scoring, v: Verdict) -> u64 {
     }
 }
 
-pub fn score(
+fn score_lent(
     scan: Scan,
     envelope: &[f32],
     levels: &[f32],
@@ -194,9 +227,46 @@ pub fn score(
     squares: &mut [f64],
     scores: &mut [f64],
     sums: &mut [f64],
-) -> Done {
-    let scored = scoring::observe(
+) -> Scored {
+    let lengths = buffers::lengths_of(scan.geometry.rate, scan.geometry.ceiling);
+    let kept = at_most(lengths.envelope, envelope.len());
+    let frame = at_most(lengths.frame, levels.len());
+    let bins = at_most(lengths.window, window.len());
+    let sums_of = at_most(lengths.sums, prefix.len());
+    let squares_of = at_most(lengths.sums, squares.len());
+    let scored = at_most(lengths.lags, scores.len());
+    let summed = at_most(lengths.lags, sums.len());
+    scan_score::observe(
         scan,
+        &envelope[..kept],
+        &levels[..frame],
+        &mut window[..bins],
+        &mut prefix[..sums_of],
+        &mut squares[..squares_of],
+        &mut scores[..scored],
+        &mut sums[..summed],
+    )
+}
+
+fn score_held(before: Buffers, scan: Scan) -> Done {
+    let envelope = before.envelope;
+    let levels = before.levels;
+    let mut window = before.window;
+    let mut prefix = before.prefix;
+    let mut squares = before.squares;
+    let mut scores = before.scores;
+    let mut sums = before.sums;
+    let scored = score_lent(
+        scan,
+        &envelope,
+        &levels,
+        &mut window,
+        &mut prefix,
+        &mut squares,
+        &mut scores,
+        &mut sums,
+    );
+    let buffers = Buffers {
         envelope,
         levels,
         window,
@@ -204,12 +274,53 @@ pub fn score(
         squares,
         scores,
         sums,
-    );
-    let next = scored.scan;
+    };
+    scored_done(scored, buffers)
+}
+
+fn scored_done(scored: Scored, buffers: Buffers) -> Done {
+    let scan = scored.scan;
     let answer = scored.answer;
-    let verdict = next.verdict;
+    let verdict = scan.verdict;
     Done {
-        scan: next,
+        scan,
+        buffers,
         answer: scored_number(answer, verdict),
     }
+}
+
+// ---- the call of a record
+
+fn make_up(before: Buffers, scan: Scan, record: &Record) -> Done {
+    let mut buffers = before;
+    let mut envelope = buffers.envelope;
+    let mut levels = buffers.levels;
+    let mut sums = buffers.sums;
+    let call = records::call_of(record);
+    made_up::write(&mut envelope, &mut levels, &mut sums, call);
+    buffers.envelope = envelope;
+    buffers.levels = levels;
+    buffers.sums = sums;
+    Done {
+        scan: made_up::state(scan, call),
+        buffers,
+        answer: 0,
+    }
+}
+
+pub fn called(before: Buffers, scan: Scan, record: &Record) -> Done {
+    let kind = records::kind_of(record);
+    if kind == 1 {
+        return make(before, scan, record);
+    }
+    if kind == 3 {
+        return push_held(before, scan, record);
+    }
+    if kind == 4 {
+        return score_held(before, scan);
+    }
+    if kind <= 7 {
+        return change_held(before, scan, record);
+    }
+    make_up(before, scan, record)
 }

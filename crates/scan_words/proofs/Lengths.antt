@@ -3,8 +3,8 @@ use mathlib.Core.Path.{_≡_}
 use Prim.Native.Nat.{ℕ}
 use mathlib.Core.List.{List}
 use lib.ListN.{length, set, length-set}
-use Rattle.coarse.specs.declared.Found.{Found}
-use Rattle.coarse.specs.declared.Found.the-variants.{Nothing, At}
+use Rattle.scan.specs.declared.Found.{Found}
+use Rattle.scan.specs.declared.Found.the-variants.{Nothing, At}
 use Rattle.scan_words.specs.Layout.{storedFound}
 
 pub found-keeps-length : (ws : List ℕ) (f : Found) → length (storedFound ws f) ≡ length ws

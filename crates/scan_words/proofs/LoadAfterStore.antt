@@ -12,14 +12,14 @@ use borrow.Author.Tests.{lt-ltb, ltb-true}
 use Rattle.answers.specs.Pick.{pick, pick-true, pick-false, pick-case}
 use Rattle.words.specs.Words.{word, half, allBelow, patternOf, flagOf}
 use Rattle.units.specs.Units.{samples}
-use Rattle.coarse.specs.declared.Geometry.{Geometry}
-use Rattle.coarse.specs.declared.Far.{Far}
-use Rattle.coarse.specs.declared.Near.{Near}
-use Rattle.coarse.specs.declared.Region.{Region}
-use Rattle.coarse.specs.declared.Found.{Found}
-use Rattle.coarse.specs.declared.Found.the-variants.{Nothing, At}
-use Rattle.coarse.specs.declared.Verdict.{Verdict}
-use Rattle.coarse.specs.declared.Scan.{Scan}
+use Rattle.scan.specs.declared.Geometry.{Geometry}
+use Rattle.scan.specs.declared.Far.{Far}
+use Rattle.scan.specs.declared.Near.{Near}
+use Rattle.scan.specs.declared.Region.{Region}
+use Rattle.scan.specs.declared.Found.{Found}
+use Rattle.scan.specs.declared.Found.the-variants.{Nothing, At}
+use Rattle.scan.specs.declared.Verdict.{Verdict}
+use Rattle.scan.specs.declared.Scan.{Scan}
 use Rattle.scan_words.specs.Layout.{loadedGeometry, loadedFar, loadedNear, loadedFound, areCases, loadedBanked, loadedVerdict, loaded, storedGeometry, storedFar, storedNear, storedFound, storedVerdict, stored}
 use Rattle.scan_words.specs.Fitting.{FoundFits, Fits, LoadsAfterStore}
 use Rattle.words.proofs.Back.{half-small, half-lt, reads, pattern-lt, flag-reads, flag-case, all-below}

@@ -6,10 +6,10 @@ use lib.Dec.{T}
 use lib.ListN.{length}
 use lib.Ieee as Ieee
 use lib.Ieee.{binary32, binary64}
-use Rattle.coarse.specs.declared.Found.{Found}
-use Rattle.coarse.specs.declared.Found.the-variants.{Nothing, At}
-use Rattle.coarse.specs.declared.Scan.{Scan}
-use Rattle.scan_words.specs.Layout.{loaded, stored}
+use Rattle.scan.specs.declared.Found.{Found}
+use Rattle.scan.specs.declared.Found.the-variants.{Nothing, At}
+use Rattle.scan.specs.declared.Scan.{Scan}
+use Rattle.scan_words.specs.Layout.{scanWords, loaded, stored}
 
 -- a number of 64 bits may be any: a word holds it
 abbrev pub FoundFits : Found → Type 0
@@ -28,4 +28,4 @@ pub record Fits (s : Scan) : Type 0 where
 
 -- what is stored loads again, whatever the words were
 abbrev pub LoadsAfterStore : Type 0
-LoadsAfterStore = (ws : List ℕ) (s : Scan) → length ws ≡ 24 → Fits s → loaded (stored ws s) ≡ s
+LoadsAfterStore = (ws : List ℕ) (s : Scan) → length ws ≡ scanWords → Fits s → loaded (stored ws s) ≡ s

@@ -10,13 +10,17 @@ use lib.Ieee.{binary32, binary64, ofBits}
 use Rattle.answers.specs.Pick.{pick, both}
 use Rattle.words.specs.Words.{word, half, allBelow, patternOf, flagOf}
 use Rattle.units.specs.Units.{samples}
-use Rattle.coarse.specs.declared.Geometry.{Geometry}
-use Rattle.coarse.specs.declared.Far.{Far}
-use Rattle.coarse.specs.declared.Near.{Near}
-use Rattle.coarse.specs.declared.Found.{Found}
-use Rattle.coarse.specs.declared.Found.the-variants.{Nothing, At}
-use Rattle.coarse.specs.declared.Verdict.{Verdict}
-use Rattle.coarse.specs.declared.Scan.{Scan}
+use Rattle.scan.specs.declared.Geometry.{Geometry}
+use Rattle.scan.specs.declared.Far.{Far}
+use Rattle.scan.specs.declared.Near.{Near}
+use Rattle.scan.specs.declared.Found.{Found}
+use Rattle.scan.specs.declared.Found.the-variants.{Nothing, At}
+use Rattle.scan.specs.declared.Verdict.{Verdict}
+use Rattle.scan.specs.declared.Scan.{Scan}
+
+-- how many words a state has
+abbrev pub scanWords : ℕ
+scanWords = 24
 
 -- ---- loading
 
@@ -92,5 +96,5 @@ unfoldable pub stored : List ℕ → Scan → List ℕ
 stored ws s = storedVerdict (storedNear (storedFar (storedGeometry ws (s .geometry)) (s .far)) (s .near)) (s .verdict)
 
 -- numbers below 16 are refusals
-unfoldable pub answered : List ℕ → ℕ → Scan → List ℕ
-answered ws n s = pick (ltb n 16) ws (stored ws s)
+unfoldable pub settled : List ℕ → ℕ → Scan → List ℕ
+settled ws n s = pick (ltb n 16) ws (stored ws s)

@@ -5,8 +5,3 @@ pub mod answering; // what a call answers
 
 // How many words a scan's state has.
 pub const WORDS: usize = 24;
-
-// How many words the values of a scored frame take: a region's delay and correlation.
-pub const FRAME_VALUES: usize = 2;
-
-pub const REGION_VALUES: usize = 2;

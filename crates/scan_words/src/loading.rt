@@ -1,18 +1,19 @@
 // A scan's state, from its words.
-use coarse::Far;
-use coarse::Found;
-use coarse::Geometry;
-use coarse::Near;
-use coarse::Region;
-use coarse::Scan;
-use coarse::Verdict;
+use scan::Far;
+use scan::Found;
+use scan::Geometry;
+use scan::Near;
+use scan::Region;
+use scan::Scan;
+use scan::Verdict;
 use units::Samples;
 ghost use mathlib.Core.Path.{_≡_};
 ghost use lib.ListN.{length};
-ghost use Rattle.scan_words.specs.Layout.{loadedGeometry, loadedFar, loadedNear, loadedFound, areCases, loadedBanked, loadedVerdict, loaded};
+ghost use Rattle.scan_words.specs.Answers.{levelPattern};
+ghost use Rattle.scan_words.specs.Layout.{scanWords, loadedGeometry, loadedFar, loadedNear, loadedFound, areCases, loadedBanked, loadedVerdict, loaded};
 
 fn load_geometry(state: &[u64]) -> Geometry
-    requires { ⌜ length (now state) ≡ 24 ⌝ }
+    requires { ⌜ length (now state) ≡ scanWords ⌝ }
     ensures { λ r. ⌜ r ≡ loadedGeometry (now (state .entry)) ⌝ }
 {
     Geometry {
@@ -28,7 +29,7 @@ fn load_geometry(state: &[u64]) -> Geometry
 }
 
 fn load_far(state: &[u64]) -> Far
-    requires { ⌜ length (now state) ≡ 24 ⌝ }
+    requires { ⌜ length (now state) ≡ scanWords ⌝ }
     ensures { λ r. ⌜ r ≡ loadedFar (now (state .entry)) ⌝ }
 {
     Far {
@@ -40,7 +41,7 @@ fn load_far(state: &[u64]) -> Far
 }
 
 fn load_near(state: &[u64]) -> Near
-    requires { ⌜ length (now state) ≡ 24 ⌝ }
+    requires { ⌜ length (now state) ≡ scanWords ⌝ }
     ensures { λ r. ⌜ r ≡ loadedNear (now (state .entry)) ⌝ }
 {
     Near {
@@ -52,7 +53,7 @@ fn load_near(state: &[u64]) -> Near
 }
 
 fn load_found(state: &[u64]) -> Found
-    requires { ⌜ length (now state) ≡ 24 ⌝ }
+    requires { ⌜ length (now state) ≡ scanWords ⌝ }
     ensures { λ r. ⌜ r ≡ loadedFound (now (state .entry)) ⌝ }
 {
     if state[19] == 0 {
@@ -65,7 +66,7 @@ fn load_found(state: &[u64]) -> Found
 }
 
 fn are_cases(state: &[u64]) -> bool
-    requires { ⌜ length (now state) ≡ 24 ⌝ }
+    requires { ⌜ length (now state) ≡ scanWords ⌝ }
     ensures { λ r. ⌜ r ≡ areCases (now (state .entry)) ⌝ }
 {
     if !words::all_below(0x1_0000_0000, state[16], state[17], state[18]) {
@@ -75,7 +76,7 @@ fn are_cases(state: &[u64]) -> bool
 }
 
 fn load_banked(state: &[u64]) -> u32
-    requires { ⌜ length (now state) ≡ 24 ⌝ }
+    requires { ⌜ length (now state) ≡ scanWords ⌝ }
     ensures { λ r. ⌜ r ≡ loadedBanked (now (state .entry)) ⌝ }
 {
     if are_cases(state) {
@@ -85,7 +86,7 @@ fn load_banked(state: &[u64]) -> u32
 }
 
 fn load_verdict(state: &[u64]) -> Verdict
-    requires { ⌜ length (now state) ≡ 24 ⌝ }
+    requires { ⌜ length (now state) ≡ scanWords ⌝ }
     ensures { λ r. ⌜ r ≡ loadedVerdict (now (state .entry)) ⌝ }
 {
     Verdict {
@@ -99,7 +100,7 @@ fn load_verdict(state: &[u64]) -> Verdict
 }
 
 pub fn load(state: &[u64]) -> Scan
-    requires { ⌜ length (now state) ≡ 24 ⌝ }
+    requires { ⌜ length (now state) ≡ scanWords ⌝ }
     ensures { λ r. ⌜ r ≡ loaded (now (state .entry)) ⌝ }
 {
     Scan {
@@ -108,4 +109,15 @@ pub fn load(state: &[u64]) -> Scan
         near: load_near(state),
         verdict: load_verdict(state),
     }
+}
+
+// The pattern of the last frame's peak where that is what `correlation` tells: without a region. A region's level stands nowhere in the state.
+pub fn level_pattern(state: &[u64]) -> u32
+    requires { ⌜ length (now state) ≡ scanWords ⌝ }
+    ensures { λ r. ⌜ r ≡ levelPattern (now (state .entry)) ⌝ }
+{
+    if state[19] == 0 {
+        return words::half(state[18], 0);
+    }
+    0
 }

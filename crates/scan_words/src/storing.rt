@@ -1,16 +1,16 @@
 // A scan's state, into its words.
-use coarse::Far;
-use coarse::Found;
-use coarse::Geometry;
-use coarse::Near;
-use coarse::Scan;
-use coarse::Verdict;
+use scan::Far;
+use scan::Found;
+use scan::Geometry;
+use scan::Near;
+use scan::Scan;
+use scan::Verdict;
 ghost use mathlib.Core.Path.{_≡_};
 ghost use lib.ListN.{length};
-ghost use Rattle.scan_words.specs.Layout.{storedGeometry, storedFar, storedNear, storedFound, storedVerdict, stored, answered};
+ghost use Rattle.scan_words.specs.Layout.{scanWords, storedGeometry, storedFar, storedNear, storedFound, storedVerdict, stored, settled};
 
 fn store_geometry(state: &mut [u64], g: Geometry)
-    requires { ⌜ length (now state) ≡ 24 ⌝ }
+    requires { ⌜ length (now state) ≡ scanWords ⌝ }
     ensures { λ _. ⌜ now (state .exit) ≡ storedGeometry (now (state .entry)) g ⌝ }
 {
     state[0] = g.rate as u64;
@@ -24,7 +24,7 @@ fn store_geometry(state: &mut [u64], g: Geometry)
 }
 
 fn store_far(state: &mut [u64], far: Far)
-    requires { ⌜ length (now state) ≡ 24 ⌝ }
+    requires { ⌜ length (now state) ≡ scanWords ⌝ }
     ensures { λ _. ⌜ now (state .exit) ≡ storedFar (now (state .entry)) far ⌝ }
 {
     let sum = words::pattern(state[9], far.sum);
@@ -35,7 +35,7 @@ fn store_far(state: &mut [u64], far: Far)
 }
 
 fn store_near(state: &mut [u64], near: Near)
-    requires { ⌜ length (now state) ≡ 24 ⌝ }
+    requires { ⌜ length (now state) ≡ scanWords ⌝ }
     ensures { λ _. ⌜ now (state .exit) ≡ storedNear (now (state .entry)) near ⌝ }
 {
     let sum = words::pattern(state[13], near.sum);
@@ -46,7 +46,7 @@ fn store_near(state: &mut [u64], near: Near)
 }
 
 fn store_found(state: &mut [u64], found: Found)
-    requires { ⌜ length (now state) ≡ 24 ⌝ }
+    requires { ⌜ length (now state) ≡ scanWords ⌝ }
     ensures { λ _. ⌜ now (state .exit) ≡ storedFound (now (state .entry)) found ⌝ }
 {
     match found {
@@ -63,7 +63,7 @@ fn store_found(state: &mut [u64], found: Found)
 }
 
 fn store_verdict(state: &mut [u64], v: Verdict)
-    requires { ⌜ length (now state) ≡ 24 ⌝ }
+    requires { ⌜ length (now state) ≡ scanWords ⌝ }
     ensures { λ _. ⌜ now (state .exit) ≡ storedVerdict (now (state .entry)) v ⌝ }
 {
     let last = words::pattern32(words::half(state[18], 0), v.last);
@@ -79,7 +79,7 @@ fn store_verdict(state: &mut [u64], v: Verdict)
 }
 
 fn store(state: &mut [u64], scan: Scan)
-    requires { ⌜ length (now state) ≡ 24 ⌝ }
+    requires { ⌜ length (now state) ≡ scanWords ⌝ }
     ensures { λ _. ⌜ now (state .exit) ≡ stored (now (state .entry)) scan ⌝ }
 {
     let geometry = scan.geometry;
@@ -92,13 +92,15 @@ fn store(state: &mut [u64], scan: Scan)
     store_verdict(state, verdict);
 }
 
-// What a call leaves in the words: nothing new where it was refused.
-pub fn answer(state: &mut [u64], number: u32, scan: Scan)
-    requires { ⌜ length (now state) ≡ 24 ⌝ }
-    ensures { λ _. ⌜ now (state .exit) ≡ answered (now (state .entry)) number scan ⌝ }
+// What a call leaves in the words, nothing new where it was refused; and the call's number.
+pub fn settle(state: &mut [u64], number: u32, scan: Scan) -> u32
+    requires { ⌜ length (now state) ≡ scanWords ⌝ }
+    ensures number { λ r. ⌜ r ≡ number ⌝ }
+    ensures words { λ r. ⌜ now (state .exit) ≡ settled (now (state .entry)) number scan ⌝ }
 {
     if number < 16 {
-        return;
+        return number;
     }
     store(state, scan);
+    number
 }

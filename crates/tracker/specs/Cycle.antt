@@ -4,7 +4,7 @@ use mathlib.Core.Bool.{Bool, true, false}
 use lib.Dec.{ltb, leb}
 use Rattle.answers.specs.Numbers.{limit, apart, nextCount}
 use Rattle.answers.specs.Pick.{pick, either}
-use Rattle.answers.specs.Refusals.{none, tooLarge, require, before, unless}
+use Rattle.answers.specs.Refusals.{none, tooLarge, require, before, ifRefused}
 use Rattle.units.specs.declared.Samples.{Samples}
 use Rattle.units.specs.Units.{samples}
 use Rattle.tracker.specs.declared.Delay.{Delay}
@@ -120,6 +120,6 @@ cycleRefusal t alignment outcome =
 -- `on_cycle`
 unfoldable pub cycled : Tracker → Samples → Outcome → Cycled
 cycled t alignment outcome =
-    unless (cycleRefusal t alignment outcome)
+    ifRefused (cycleRefusal t alignment outcome)
     (cycle t (Refused (cycleRefusal t alignment outcome)))
     (judged t alignment outcome)

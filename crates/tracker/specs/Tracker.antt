@@ -4,7 +4,7 @@ use mathlib.Core.Bool.{Bool, true, false, not}
 use lib.Dec.{ltb, eqb}
 use Rattle.answers.specs.Numbers.{limit, allowedRate}
 use Rattle.answers.specs.Pick.{pick, both, either}
-use Rattle.answers.specs.Refusals.{none, outsideTable, brokenState, require, unless}
+use Rattle.answers.specs.Refusals.{none, outsideTable, brokenState, require, ifRefused}
 use Rattle.tracker.specs.declared.Delay.{Delay}
 use Rattle.tracker.specs.declared.Delay.the-variants.{Nothing, At}
 use Rattle.tracker.specs.declared.Answer.the-variants as answer
@@ -57,16 +57,16 @@ stateRefusal t =
 -- the tracker and the answer of a call that may change it
 unfoldable pub changed : Tracker → ℕ → Tracker → Changed
 changed given refusal next =
-    unless refusal
+    ifRefused refusal
     (record { tracker = given; answer = answer.Refused refusal })
     (record { tracker = next; answer = answer.Done })
 
 -- the answer of a query: a count, or yes and no
 unfoldable pub counted : ℕ → ℕ → Count
-counted refusal n = unless refusal (count.Refused refusal) (count.Is n)
+counted refusal n = ifRefused refusal (count.Refused refusal) (count.Is n)
 
 unfoldable pub flagged : ℕ → Bool → Flag
-flagged refusal is = unless refusal (flag.Refused refusal) (flag.Is is)
+flagged refusal is = ifRefused refusal (flag.Refused refusal) (flag.Is is)
 
 -- ---- the calls
 

@@ -13,6 +13,10 @@ use Rattle.tracker.specs.declared.Delay.the-variants.{Nothing, At}
 use Rattle.tracker.specs.declared.Tracker.{Tracker}
 use Rattle.words.specs.Words.{word, half, allBelow, flagOf}
 
+-- how many words a state has
+abbrev pub trackerWords : ℕ
+trackerWords = 14
+
 -- ---- loading
 
 unfoldable pub loadedBands : List ℕ → Bands
@@ -74,5 +78,5 @@ stored ws t =
     ∷ []
 
 -- what a call leaves in the words: numbers below 16 are refusals, and a refused call leaves every word
-unfoldable pub answered : List ℕ → ℕ → Tracker → List ℕ
-answered ws number t = pick (ltb number 16) ws (stored ws t)
+unfoldable pub settled : List ℕ → ℕ → Tracker → List ℕ
+settled ws number t = pick (ltb number 16) ws (stored ws t)

@@ -1,16 +1,18 @@
-// A tracker's state, from the 14 words that a host lends and back. specs/Layout.antt says where each field stands.
+// A tracker's state, from the 14 words that a host lends and back, and its calls' answers as numbers and values. specs/Layout.antt says where each field stands.
 ghost use mathlib.Core.Path.{_≡_};
 ghost use lib.ListN.{length};
-ghost use Rattle.tracker_words.specs.Layout.{loadedBands, loadedDelay, areCases, loadedPending, loaded, delayFlag, delayWord, stored, answered};
+ghost use Rattle.tracker_words.specs.Layout.{trackerWords, loadedBands, loadedDelay, areCases, loadedPending, loaded, delayFlag, delayWord, stored, settled};
 use tracker::Bands;
 use tracker::Delay;
 use tracker::Tracker;
 use units::Samples;
 
+pub mod answering; // what a call answers
+
 pub const WORDS: usize = 14;
 
 fn load_bands(state: &[u64]) -> Bands
-    requires { ⌜ length (now state) ≡ 14 ⌝ }
+    requires { ⌜ length (now state) ≡ trackerWords ⌝ }
     ensures { λ r. ⌜ r ≡ loadedBands (now (state .entry)) ⌝ }
 {
     Bands {
@@ -33,7 +35,7 @@ fn load_delay(flag: u64, delay: u64) -> Delay
 
 // Whether each flag is 0 or 1, and each run a number of 32 bits.
 fn are_cases(state: &[u64]) -> bool
-    requires { ⌜ length (now state) ≡ 14 ⌝ }
+    requires { ⌜ length (now state) ≡ trackerWords ⌝ }
     ensures { λ r. ⌜ r ≡ areCases (now (state .entry)) ⌝ }
 {
     if !words::all_below(2, state[6], state[8], state[13]) {
@@ -43,7 +45,7 @@ fn are_cases(state: &[u64]) -> bool
 }
 
 fn load_pending(state: &[u64]) -> Delay
-    requires { ⌜ length (now state) ≡ 14 ⌝ }
+    requires { ⌜ length (now state) ≡ trackerWords ⌝ }
     ensures { λ r. ⌜ r ≡ loadedPending (now (state .entry)) ⌝ }
 {
     if are_cases(state) {
@@ -53,7 +55,7 @@ fn load_pending(state: &[u64]) -> Delay
 }
 
 pub fn load(state: &[u64]) -> Tracker
-    requires { ⌜ length (now state) ≡ 14 ⌝ }
+    requires { ⌜ length (now state) ≡ trackerWords ⌝ }
     ensures { λ r. ⌜ r ≡ loaded (now (state .entry)) ⌝ }
 {
     Tracker {
@@ -88,7 +90,7 @@ fn delay_word(old: u64, delay: Delay) -> u64
 }
 
 fn store(state: &mut [u64], tracker: Tracker)
-    requires { ⌜ length (now state) ≡ 14 ⌝ }
+    requires { ⌜ length (now state) ≡ trackerWords ⌝ }
     ensures { λ _. ⌜ now (state .exit) ≡ stored (now (state .entry)) tracker ⌝ }
 {
     let bands = tracker.bands;
@@ -113,13 +115,15 @@ fn store(state: &mut [u64], tracker: Tracker)
     words::put(&stored, state);
 }
 
-// What a call leaves in the words: nothing new where it was refused.
-pub fn answer(state: &mut [u64], number: u32, tracker: Tracker)
-    requires { ⌜ length (now state) ≡ 14 ⌝ }
-    ensures { λ _. ⌜ now (state .exit) ≡ answered (now (state .entry)) number tracker ⌝ }
+// What a call leaves in the words, nothing new where it was refused; and the call's number.
+pub fn settle(state: &mut [u64], number: u32, tracker: Tracker) -> u32
+    requires { ⌜ length (now state) ≡ trackerWords ⌝ }
+    ensures number { λ r. ⌜ r ≡ number ⌝ }
+    ensures words { λ r. ⌜ now (state .exit) ≡ settled (now (state .entry)) number tracker ⌝ }
 {
     if number < 16 {
-        return;
+        return number;
     }
     store(state, tracker);
+    number
 }

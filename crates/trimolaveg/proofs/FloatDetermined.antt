@@ -1,16 +1,16 @@
 -- Every call of the floats: its contract admits one answer.
 use Rattle.answers.proofs.Once.{Determined, once}
 use Rattle.floats.proofs.Laws.{narrow-bits-only, root-bits-only}
-use Rattle.trimolaveg.proofs.float_calls.tmv_narrow.Kinds as narrow-kinds
-use Rattle.trimolaveg.proofs.float_calls.tmv_narrow.Reads as narrow-reads
-use Rattle.trimolaveg.proofs.float_calls.tmv_square_root.Kinds as square-root-kinds
-use Rattle.trimolaveg.proofs.float_calls.tmv_square_root.Reads as square-root-reads
-use Rattle.trimolaveg.proofs.float_calls.tmv_is_finite.Kinds as is-finite-kinds
-use Rattle.trimolaveg.proofs.float_calls.tmv_is_finite.Reads as is-finite-reads
-use Rattle.trimolaveg.proofs.float_calls.tmv_is_finite32.Kinds as is-finite32-kinds
-use Rattle.trimolaveg.proofs.float_calls.tmv_is_finite32.Reads as is-finite32-reads
-use Rattle.trimolaveg.proofs.float_calls.tmv_magnitude.Kinds as magnitude-kinds
-use Rattle.trimolaveg.proofs.float_calls.tmv_magnitude.Reads as magnitude-reads
+use Rattle.trimolaveg.proofs.float_face.tmv_narrow.Kinds as narrow-kinds
+use Rattle.trimolaveg.proofs.float_face.tmv_narrow.Reads as narrow-reads
+use Rattle.trimolaveg.proofs.float_face.tmv_square_root.Kinds as square-root-kinds
+use Rattle.trimolaveg.proofs.float_face.tmv_square_root.Reads as square-root-reads
+use Rattle.trimolaveg.proofs.float_face.tmv_is_finite.Kinds as is-finite-kinds
+use Rattle.trimolaveg.proofs.float_face.tmv_is_finite.Reads as is-finite-reads
+use Rattle.trimolaveg.proofs.float_face.tmv_is_finite32.Kinds as is-finite32-kinds
+use Rattle.trimolaveg.proofs.float_face.tmv_is_finite32.Reads as is-finite32-reads
+use Rattle.trimolaveg.proofs.float_face.tmv_magnitude.Kinds as magnitude-kinds
+use Rattle.trimolaveg.proofs.float_face.tmv_magnitude.Reads as magnitude-reads
 
 pub narrow-once : Determined 0 narrow-kinds.ps narrow-kinds.r narrow-reads.Post
 narrow-once κs a v w x y p q = once (narrow-bits-only _ _ p) (narrow-bits-only _ _ q)

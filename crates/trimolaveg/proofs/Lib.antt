@@ -1,6 +1,5 @@
 -- Laws that the proofs share, and what the contracts come to.
-mod ScanSeen
-mod RunSeen
+mod Order
 pub mod Patterns
 pub mod ScanDetermined
 pub mod FloatDetermined

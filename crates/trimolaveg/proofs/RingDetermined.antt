@@ -5,22 +5,22 @@ use denote.Ref.{now}
 use denote.Triple.Clauses.{AtExit}
 use borrow.Fn.Kinds.{Dens, resT, endedOf}
 use Rattle.answers.proofs.Once.{Determined, once}
-use Rattle.trimolaveg.proofs.ring_calls.tmv_ring_words.Kinds as words-kinds
-use Rattle.trimolaveg.proofs.ring_calls.tmv_ring_words.Reads as words-reads
-use Rattle.trimolaveg.proofs.ring_calls.tmv_ring_new.Kinds as new-kinds
-use Rattle.trimolaveg.proofs.ring_calls.tmv_ring_new.Reads as new-reads
-use Rattle.trimolaveg.proofs.ring_calls.tmv_ring_push.Kinds as push-kinds
-use Rattle.trimolaveg.proofs.ring_calls.tmv_ring_push.Reads as push-reads
-use Rattle.trimolaveg.proofs.ring_calls.tmv_ring_clear.Kinds as clear-kinds
-use Rattle.trimolaveg.proofs.ring_calls.tmv_ring_clear.Reads as clear-reads
-use Rattle.trimolaveg.proofs.ring_calls.tmv_ring_get.Kinds as get-kinds
-use Rattle.trimolaveg.proofs.ring_calls.tmv_ring_get.Reads as get-reads
-use Rattle.trimolaveg.proofs.ring_calls.tmv_ring_next_abs.Kinds as next-abs-kinds
-use Rattle.trimolaveg.proofs.ring_calls.tmv_ring_next_abs.Reads as next-abs-reads
-use Rattle.trimolaveg.proofs.ring_calls.tmv_ring_capacity.Kinds as capacity-kinds
-use Rattle.trimolaveg.proofs.ring_calls.tmv_ring_capacity.Reads as capacity-reads
-use Rattle.trimolaveg.proofs.ring_calls.tmv_ring_dropped.Kinds as dropped-kinds
-use Rattle.trimolaveg.proofs.ring_calls.tmv_ring_dropped.Reads as dropped-reads
+use Rattle.trimolaveg.proofs.ring_face.tmv_ring_words.Kinds as words-kinds
+use Rattle.trimolaveg.proofs.ring_face.tmv_ring_words.Reads as words-reads
+use Rattle.trimolaveg.proofs.ring_face.tmv_ring_new.Kinds as new-kinds
+use Rattle.trimolaveg.proofs.ring_face.tmv_ring_new.Reads as new-reads
+use Rattle.trimolaveg.proofs.ring_face.tmv_ring_push.Kinds as push-kinds
+use Rattle.trimolaveg.proofs.ring_face.tmv_ring_push.Reads as push-reads
+use Rattle.trimolaveg.proofs.ring_face.tmv_ring_clear.Kinds as clear-kinds
+use Rattle.trimolaveg.proofs.ring_face.tmv_ring_clear.Reads as clear-reads
+use Rattle.trimolaveg.proofs.ring_face.tmv_ring_get.Kinds as get-kinds
+use Rattle.trimolaveg.proofs.ring_face.tmv_ring_get.Reads as get-reads
+use Rattle.trimolaveg.proofs.ring_face.tmv_ring_next_abs.Kinds as next-abs-kinds
+use Rattle.trimolaveg.proofs.ring_face.tmv_ring_next_abs.Reads as next-abs-reads
+use Rattle.trimolaveg.proofs.ring_face.tmv_ring_capacity.Kinds as capacity-kinds
+use Rattle.trimolaveg.proofs.ring_face.tmv_ring_capacity.Reads as capacity-reads
+use Rattle.trimolaveg.proofs.ring_face.tmv_ring_dropped.Kinds as dropped-kinds
+use Rattle.trimolaveg.proofs.ring_face.tmv_ring_dropped.Reads as dropped-reads
 
 pub words-once : Determined 0 words-kinds.ps words-kinds.r words-reads.Post
 words-once κs a v w x y p q = once p q

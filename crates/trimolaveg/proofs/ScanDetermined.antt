@@ -5,51 +5,50 @@ use denote.Ref.{now}
 use denote.Triple.Clauses.{AtExit}
 use borrow.Fn.Kinds.{Dens, resT, endedOf}
 use Rattle.answers.proofs.Once.{Determined, once}
-use Rattle.coarse.specs.State.{Buffers}
-use Rattle.trimolaveg.proofs.scan_calls.tmv_scan_words.Kinds as words-kinds
-use Rattle.trimolaveg.proofs.scan_calls.tmv_scan_words.Reads as words-reads
-use Rattle.trimolaveg.proofs.scan_calls.tmv_scan_envelope_len.Kinds as envelope-len-kinds
-use Rattle.trimolaveg.proofs.scan_calls.tmv_scan_envelope_len.Reads as envelope-len-reads
-use Rattle.trimolaveg.proofs.scan_calls.tmv_scan_levels_len.Kinds as levels-len-kinds
-use Rattle.trimolaveg.proofs.scan_calls.tmv_scan_levels_len.Reads as levels-len-reads
-use Rattle.trimolaveg.proofs.scan_calls.tmv_scan_window_len.Kinds as window-len-kinds
-use Rattle.trimolaveg.proofs.scan_calls.tmv_scan_window_len.Reads as window-len-reads
-use Rattle.trimolaveg.proofs.scan_calls.tmv_scan_prefix_len.Kinds as prefix-len-kinds
-use Rattle.trimolaveg.proofs.scan_calls.tmv_scan_prefix_len.Reads as prefix-len-reads
-use Rattle.trimolaveg.proofs.scan_calls.tmv_scan_lags_len.Kinds as lags-len-kinds
-use Rattle.trimolaveg.proofs.scan_calls.tmv_scan_lags_len.Reads as lags-len-reads
-use Rattle.trimolaveg.proofs.scan_calls.tmv_scan_new.Kinds as new-kinds
-use Rattle.trimolaveg.proofs.scan_calls.tmv_scan_new.Reads as new-reads
-use Rattle.trimolaveg.proofs.scan_calls.tmv_scan_reset.Kinds as reset-kinds
-use Rattle.trimolaveg.proofs.scan_calls.tmv_scan_reset.Reads as reset-reads
-use Rattle.trimolaveg.proofs.scan_calls.tmv_scan_rearm.Kinds as rearm-kinds
-use Rattle.trimolaveg.proofs.scan_calls.tmv_scan_rearm.Reads as rearm-reads
-use Rattle.trimolaveg.proofs.scan_calls.tmv_scan_discard_near.Kinds as discard-near-kinds
-use Rattle.trimolaveg.proofs.scan_calls.tmv_scan_discard_near.Reads as discard-near-reads
-use Rattle.trimolaveg.proofs.scan_calls.tmv_scan_push_far.Kinds as push-far-kinds
-use Rattle.trimolaveg.proofs.scan_calls.tmv_scan_push_far.Reads as push-far-reads
-use Rattle.trimolaveg.proofs.scan_calls.tmv_scan_push_near.Kinds as push-near-kinds
-use Rattle.trimolaveg.proofs.scan_calls.tmv_scan_push_near.Reads as push-near-reads
-use Rattle.trimolaveg.proofs.scan_calls.tmv_scan_push_near_run.Kinds as push-near-run-kinds
-use Rattle.trimolaveg.proofs.scan_calls.tmv_scan_push_near_run.Reads as push-near-run-reads
-use Rattle.trimolaveg.proofs.scan_calls.tmv_scan_observe.Kinds as observe-kinds
-use Rattle.trimolaveg.proofs.scan_calls.tmv_scan_observe.Reads as observe-reads
-use Rattle.trimolaveg.proofs.scan_calls.tmv_scan_bin_samples.Kinds as bin-samples-kinds
-use Rattle.trimolaveg.proofs.scan_calls.tmv_scan_bin_samples.Reads as bin-samples-reads
-use Rattle.trimolaveg.proofs.scan_calls.tmv_scan_ceiling_samples.Kinds as ceiling-samples-kinds
-use Rattle.trimolaveg.proofs.scan_calls.tmv_scan_ceiling_samples.Reads as ceiling-samples-reads
-use Rattle.trimolaveg.proofs.scan_calls.tmv_scan_frames.Kinds as frames-kinds
-use Rattle.trimolaveg.proofs.scan_calls.tmv_scan_frames.Reads as frames-reads
-use Rattle.trimolaveg.proofs.scan_calls.tmv_scan_correlation.Kinds as correlation-kinds
-use Rattle.trimolaveg.proofs.scan_calls.tmv_scan_correlation.Reads as correlation-reads
-use Rattle.trimolaveg.proofs.scan_calls.tmv_scan_region.Kinds as region-kinds
-use Rattle.trimolaveg.proofs.scan_calls.tmv_scan_region.Reads as region-reads
-use Rattle.trimolaveg.proofs.scan_calls.tmv_scan_beyond_ceiling.Kinds as beyond-ceiling-kinds
-use Rattle.trimolaveg.proofs.scan_calls.tmv_scan_beyond_ceiling.Reads as beyond-ceiling-reads
-use Rattle.trimolaveg.proofs.scan_calls.tmv_scan_finished.Kinds as finished-kinds
-use Rattle.trimolaveg.proofs.scan_calls.tmv_scan_finished.Reads as finished-reads
-use Rattle.trimolaveg.proofs.scan_calls.tmv_scan_exhausted.Kinds as exhausted-kinds
-use Rattle.trimolaveg.proofs.scan_calls.tmv_scan_exhausted.Reads as exhausted-reads
+use Rattle.scan.specs.State.{Buffers}
+use Rattle.trimolaveg.specs.ScanFace.{History}
+use Rattle.trimolaveg.proofs.scan_face.tmv_scan_words.Kinds as words-kinds
+use Rattle.trimolaveg.proofs.scan_face.tmv_scan_words.Reads as words-reads
+use Rattle.trimolaveg.proofs.scan_face.tmv_scan_envelope_len.Kinds as envelope-len-kinds
+use Rattle.trimolaveg.proofs.scan_face.tmv_scan_envelope_len.Reads as envelope-len-reads
+use Rattle.trimolaveg.proofs.scan_face.tmv_scan_levels_len.Kinds as levels-len-kinds
+use Rattle.trimolaveg.proofs.scan_face.tmv_scan_levels_len.Reads as levels-len-reads
+use Rattle.trimolaveg.proofs.scan_face.tmv_scan_window_len.Kinds as window-len-kinds
+use Rattle.trimolaveg.proofs.scan_face.tmv_scan_window_len.Reads as window-len-reads
+use Rattle.trimolaveg.proofs.scan_face.tmv_scan_prefix_len.Kinds as prefix-len-kinds
+use Rattle.trimolaveg.proofs.scan_face.tmv_scan_prefix_len.Reads as prefix-len-reads
+use Rattle.trimolaveg.proofs.scan_face.tmv_scan_lags_len.Kinds as lags-len-kinds
+use Rattle.trimolaveg.proofs.scan_face.tmv_scan_lags_len.Reads as lags-len-reads
+use Rattle.trimolaveg.proofs.scan_face.tmv_scan_new.Kinds as new-kinds
+use Rattle.trimolaveg.proofs.scan_face.tmv_scan_new.Reads as new-reads
+use Rattle.trimolaveg.proofs.scan_face.tmv_scan_reset.Kinds as reset-kinds
+use Rattle.trimolaveg.proofs.scan_face.tmv_scan_reset.Reads as reset-reads
+use Rattle.trimolaveg.proofs.scan_face.tmv_scan_rearm.Kinds as rearm-kinds
+use Rattle.trimolaveg.proofs.scan_face.tmv_scan_rearm.Reads as rearm-reads
+use Rattle.trimolaveg.proofs.scan_face.tmv_scan_discard_near.Kinds as discard-near-kinds
+use Rattle.trimolaveg.proofs.scan_face.tmv_scan_discard_near.Reads as discard-near-reads
+use Rattle.trimolaveg.proofs.scan_face.tmv_scan_push_far.Kinds as push-far-kinds
+use Rattle.trimolaveg.proofs.scan_face.tmv_scan_push_far.Reads as push-far-reads
+use Rattle.trimolaveg.proofs.scan_face.tmv_scan_push_near.Kinds as push-near-kinds
+use Rattle.trimolaveg.proofs.scan_face.tmv_scan_push_near.Reads as push-near-reads
+use Rattle.trimolaveg.proofs.scan_face.tmv_scan_observe.Kinds as observe-kinds
+use Rattle.trimolaveg.proofs.scan_face.tmv_scan_observe.Reads as observe-reads
+use Rattle.trimolaveg.proofs.scan_face.tmv_scan_bin_samples.Kinds as bin-samples-kinds
+use Rattle.trimolaveg.proofs.scan_face.tmv_scan_bin_samples.Reads as bin-samples-reads
+use Rattle.trimolaveg.proofs.scan_face.tmv_scan_ceiling_samples.Kinds as ceiling-samples-kinds
+use Rattle.trimolaveg.proofs.scan_face.tmv_scan_ceiling_samples.Reads as ceiling-samples-reads
+use Rattle.trimolaveg.proofs.scan_face.tmv_scan_frames.Kinds as frames-kinds
+use Rattle.trimolaveg.proofs.scan_face.tmv_scan_frames.Reads as frames-reads
+use Rattle.trimolaveg.proofs.scan_face.tmv_scan_correlation.Kinds as correlation-kinds
+use Rattle.trimolaveg.proofs.scan_face.tmv_scan_correlation.Reads as correlation-reads
+use Rattle.trimolaveg.proofs.scan_face.tmv_scan_region.Kinds as region-kinds
+use Rattle.trimolaveg.proofs.scan_face.tmv_scan_region.Reads as region-reads
+use Rattle.trimolaveg.proofs.scan_face.tmv_scan_beyond_ceiling.Kinds as beyond-ceiling-kinds
+use Rattle.trimolaveg.proofs.scan_face.tmv_scan_beyond_ceiling.Reads as beyond-ceiling-reads
+use Rattle.trimolaveg.proofs.scan_face.tmv_scan_finished.Kinds as finished-kinds
+use Rattle.trimolaveg.proofs.scan_face.tmv_scan_finished.Reads as finished-reads
+use Rattle.trimolaveg.proofs.scan_face.tmv_scan_exhausted.Kinds as exhausted-kinds
+use Rattle.trimolaveg.proofs.scan_face.tmv_scan_exhausted.Reads as exhausted-reads
 
 pub words-once : Determined 0 words-kinds.ps words-kinds.r words-reads.Post
 words-once κs a v w x y p q = once p q
@@ -79,8 +78,8 @@ pub new-leaves-once : (κs : Lfts 3) (a : Dens κs new-kinds.ps) (v w : resT new
     (now (x .1 .1 .0) ≡ now (y .1 .1 .0))
 new-leaves-once κs a v w x y p q = (
   once (p .1 .0) (q .1 .0),
-  once (p .1 .1 .0) (q .1 .1 .0),
-  once (p .1 .1 .1) (q .1 .1 .1),
+  ap (λ (h : History). h .envelope) (once (p .1 .1) (q .1 .1)),
+  ap (λ (h : History). h .lagSums) (once (p .1 .1) (q .1 .1)),
 )
 
 pub reset-once : Determined 3 reset-kinds.ps reset-kinds.r reset-reads.Post
@@ -93,8 +92,8 @@ pub reset-leaves-once : (κs : Lfts 3) (a : Dens κs reset-kinds.ps) (v w : resT
     (now (x .1 .1 .0) ≡ now (y .1 .1 .0))
 reset-leaves-once κs a v w x y p q = (
   once (p .1 .0) (q .1 .0),
-  once (p .1 .1 .0) (q .1 .1 .0),
-  once (p .1 .1 .1) (q .1 .1 .1),
+  ap (λ (h : History). h .envelope) (once (p .1 .1) (q .1 .1)),
+  ap (λ (h : History). h .lagSums) (once (p .1 .1) (q .1 .1)),
 )
 
 pub rearm-once : Determined 2 rearm-kinds.ps rearm-kinds.r rearm-reads.Post
@@ -143,20 +142,6 @@ pub push-near-leaves-once : (κs : Lfts 2) (a : Dens κs push-near-kinds.ps) (v 
 push-near-leaves-once κs a v w x y p q = (
   once (p .1 .0) (q .1 .0),
   once (p .1 .1) (q .1 .1),
-)
-
-pub push-near-run-once : Determined 4 push-near-run-kinds.ps push-near-run-kinds.r push-near-run-reads.Post
-push-near-run-once κs a v w x y p q = once (p .0) (q .0)
-
-pub push-near-run-leaves-once : (κs : Lfts 4) (a : Dens κs push-near-run-kinds.ps) (v w : resT push-near-run-kinds.r κs .Denot) (x y : AtExit (endedOf 4 push-near-run-kinds.ps push-near-run-kinds.r) κs)
-    → push-near-run-reads.Post κs a v x → push-near-run-reads.Post κs a w y
-    → (now (x .0) ≡ now (y .0)) ×
-    (now (x .1 .0) ≡ now (y .1 .0)) ×
-    (now (x .1 .1 .1 .1 .0) ≡ now (y .1 .1 .1 .1 .0))
-push-near-run-leaves-once κs a v w x y p q = (
-  once (p .1 .0) (q .1 .0),
-  once (p .1 .1 .0) (q .1 .1 .0),
-  once (p .1 .1 .1) (q .1 .1 .1),
 )
 
 pub observe-once : Determined 9 observe-kinds.ps observe-kinds.r observe-reads.Post

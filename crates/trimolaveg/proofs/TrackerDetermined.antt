@@ -5,20 +5,20 @@ use denote.Ref.{now}
 use denote.Triple.Clauses.{AtExit}
 use borrow.Fn.Kinds.{Dens, resT, endedOf}
 use Rattle.answers.proofs.Once.{Determined, once}
-use Rattle.trimolaveg.proofs.tracker_calls.tmv_tracker_words.Kinds as words-kinds
-use Rattle.trimolaveg.proofs.tracker_calls.tmv_tracker_words.Reads as words-reads
-use Rattle.trimolaveg.proofs.tracker_calls.tmv_tracker_new.Kinds as new-kinds
-use Rattle.trimolaveg.proofs.tracker_calls.tmv_tracker_new.Reads as new-reads
-use Rattle.trimolaveg.proofs.tracker_calls.tmv_tracker_on_cycle.Kinds as on-cycle-kinds
-use Rattle.trimolaveg.proofs.tracker_calls.tmv_tracker_on_cycle.Reads as on-cycle-reads
-use Rattle.trimolaveg.proofs.tracker_calls.tmv_tracker_on_discontinuity.Kinds as on-discontinuity-kinds
-use Rattle.trimolaveg.proofs.tracker_calls.tmv_tracker_on_discontinuity.Reads as on-discontinuity-reads
-use Rattle.trimolaveg.proofs.tracker_calls.tmv_tracker_jump_cycles.Kinds as jump-cycles-kinds
-use Rattle.trimolaveg.proofs.tracker_calls.tmv_tracker_jump_cycles.Reads as jump-cycles-reads
-use Rattle.trimolaveg.proofs.tracker_calls.tmv_tracker_suspect.Kinds as suspect-kinds
-use Rattle.trimolaveg.proofs.tracker_calls.tmv_tracker_suspect.Reads as suspect-reads
-use Rattle.trimolaveg.proofs.tracker_calls.tmv_tracker_quiescent.Kinds as quiescent-kinds
-use Rattle.trimolaveg.proofs.tracker_calls.tmv_tracker_quiescent.Reads as quiescent-reads
+use Rattle.trimolaveg.proofs.tracker_face.tmv_tracker_words.Kinds as words-kinds
+use Rattle.trimolaveg.proofs.tracker_face.tmv_tracker_words.Reads as words-reads
+use Rattle.trimolaveg.proofs.tracker_face.tmv_tracker_new.Kinds as new-kinds
+use Rattle.trimolaveg.proofs.tracker_face.tmv_tracker_new.Reads as new-reads
+use Rattle.trimolaveg.proofs.tracker_face.tmv_tracker_on_cycle.Kinds as on-cycle-kinds
+use Rattle.trimolaveg.proofs.tracker_face.tmv_tracker_on_cycle.Reads as on-cycle-reads
+use Rattle.trimolaveg.proofs.tracker_face.tmv_tracker_on_discontinuity.Kinds as on-discontinuity-kinds
+use Rattle.trimolaveg.proofs.tracker_face.tmv_tracker_on_discontinuity.Reads as on-discontinuity-reads
+use Rattle.trimolaveg.proofs.tracker_face.tmv_tracker_jump_cycles.Kinds as jump-cycles-kinds
+use Rattle.trimolaveg.proofs.tracker_face.tmv_tracker_jump_cycles.Reads as jump-cycles-reads
+use Rattle.trimolaveg.proofs.tracker_face.tmv_tracker_suspect.Kinds as suspect-kinds
+use Rattle.trimolaveg.proofs.tracker_face.tmv_tracker_suspect.Reads as suspect-reads
+use Rattle.trimolaveg.proofs.tracker_face.tmv_tracker_quiescent.Kinds as quiescent-kinds
+use Rattle.trimolaveg.proofs.tracker_face.tmv_tracker_quiescent.Reads as quiescent-reads
 
 pub words-once : Determined 0 words-kinds.ps words-kinds.r words-reads.Post
 words-once κs a v w x y p q = once p q

@@ -1,125 +1,115 @@
--- The fine stage's answers on the C face: a refusal is its number; the cases count from 16 on, in document 01's order.
-use Prim.Native.Nat.{ℕ, _+_}
-use mathlib.Core.List.{List}
-use lib.ListN.{set}
-use lib.Ieee.{binary64}
+-- The fine stage's calls on the words that a host lends.
+use Prim.Native.Nat.{ℕ}
+use mathlib.Core.Bool.{Bool, true}
+use mathlib.Core.List.{List, []}
+use lib.Ieee.{Float}
 use Rattle.answers.specs.Pick.{pick}
 use Rattle.answers.specs.Numbers.{allowedSpan}
-use Rattle.fine.specs.State.{frameOf, windowOf}
-use Rattle.fine.specs.declared.Position.{Position}
-use Rattle.fine.specs.declared.Position.the-variants.{Nothing, At}
-use Rattle.fine.specs.declared.Change.{Change}
-use Rattle.fine.specs.declared.Change.the-variants as change
-use Rattle.fine.specs.declared.SamplesReport.{SamplesReport}
-use Rattle.fine.specs.declared.SamplesReport.the-variants as samplesReport
-use Rattle.fine.specs.declared.RangeReport.{RangeReport}
-use Rattle.fine.specs.declared.RangeReport.the-variants as rangeReport
+use Rattle.units.specs.Units.{samples}
+use Rattle.words.specs.Words.{fits, oneValue}
+use Rattle.fine.specs.declared.Changed.{Changed}
 use Rattle.fine.specs.declared.CountReport.{CountReport}
-use Rattle.fine.specs.declared.CountReport.the-variants as countReport
-use Rattle.fine.specs.declared.RatioReport.{RatioReport}
-use Rattle.fine.specs.declared.RatioReport.the-variants as ratioReport
-use Rattle.fine.specs.declared.PositionReport.{PositionReport}
-use Rattle.fine.specs.declared.PositionReport.the-variants as positionReport
-use Rattle.gates.specs.declared.Taking.{Taking}
-use Rattle.gates.specs.declared.Taking.the-variants as taking
-use Rattle.gates.specs.declared.GateAnswer.{GateAnswer}
-use Rattle.gates.specs.declared.GateAnswer.the-variants as gate
-use Rattle.gates.specs.declared.RescanAnswer.{RescanAnswer}
-use Rattle.gates.specs.declared.RescanAnswer.the-variants as rescan
-use Rattle.peaks.specs.declared.PeakAnswer.{PeakAnswer}
-use Rattle.peaks.specs.declared.PeakAnswer.the-variants as peak
-use Rattle.words.specs.Words.{word, patternOf}
+use Rattle.fine.specs.declared.SamplesReport.{SamplesReport}
+use Rattle.fine.specs.Calls.{made, restarted, relocated, wasReset, frameLen, windowLen, maxDelay, windowBackOff, searchRange, framesOf, skippedOf, lastScanRatio, lastScanPeakAt, lastScanOrigin, scansOf}
+use Rattle.fine_gate.specs.Gate.{pushedNear, gated, rescanned}
+use Rattle.fine_peak.specs.Peak.{searched}
+use Rattle.fine_words.specs.Layout.{fineWords, loaded}
+use Rattle.fine_words.specs.Answers.{rangeValues, peakValues, changeNumber, changedWords, takingNumber, tookWords, gateNumber, gatedWords, rescanNumber, samplesNumber, samplesTold, countNumber, countTold, ratioNumber, ratioTold, ratioPattern, positionNumber, positionTold, rangeNumber, rangeTold, peakNumber, peakTold, searchedWords}
+use Rattle.trimolaveg.specs.Face.{Left, left, settingFirst, judged, unlessRefused}
 
--- ---- lengths of what is lent, by the span; 0 where it is outside the table
-
+-- the length of what is lent, by the span; 0 where it is outside the table
 abbrev pub lengthFor : ℕ → ℕ → ℕ
 lengthFor span n = pick (allowedSpan span) n 0
 
--- ---- answers without values
+-- the setting of a fine state is its span
+abbrev pub judgedFine : List ℕ → Bool → ℕ
+judgedFine ws valuesFit = judged (fits fineWords ws) (allowedSpan (loaded ws .lengths .span)) valuesFit
 
-abbrev pub changeNumber : Change → ℕ
-changeNumber (change.Refused n) = n
-changeNumber change.Done = 16
+-- ---- calls that change the state
 
-abbrev pub takingNumber : Taking → ℕ
-takingNumber (taking.Refused n) = n
-takingNumber taking.Taken = 16
-takingNumber taking.Full = 17
+abbrev pub changeLeft : List ℕ → Changed → Left (Unit {0})
+changeLeft ws c = left (changeNumber (c .answer)) (changedWords ws c) [] tt
 
-abbrev pub gateNumber : GateAnswer → ℕ
-gateNumber (gate.Refused n) = n
-gateNumber gate.Skipped = 16
-gateNumber gate.Silent = 17
-gateNumber gate.First = 18
-gateNumber gate.Later = 19
+unfoldable pub newCalled : List ℕ → ℕ → Left (Unit {0})
+newCalled ws span = unlessRefused (settingFirst (allowedSpan span) (fits fineWords ws)) ws [] tt (changeLeft ws (made span))
 
-abbrev pub rescanNumber : RescanAnswer → ℕ
-rescanNumber (rescan.Refused n) = n
-rescanNumber rescan.NothingRetained = 16
-rescanNumber rescan.Skipped = 17
-rescanNumber rescan.Silent = 18
-rescanNumber rescan.Taken = 19
+abbrev pub changeCalled : List ℕ → Changed → Left (Unit {0})
+changeCalled ws c = unlessRefused (judgedFine ws true) ws [] tt (changeLeft ws c)
 
--- ---- answers with values
+unfoldable pub restartCalled : List ℕ → Left (Unit {0})
+restartCalled ws = changeCalled ws (restarted (loaded ws))
 
-abbrev pub samplesNumber : SamplesReport → ℕ
-samplesNumber (samplesReport.Refused n) = n
-samplesNumber (samplesReport.Is d) = 16
+unfoldable pub relocateCalled : List ℕ → ℕ → Left (Unit {0})
+relocateCalled ws origin = changeCalled ws (relocated (loaded ws) (samples origin))
 
-abbrev pub samplesValues : List ℕ → SamplesReport → List ℕ
-samplesValues vs (samplesReport.Refused n) = vs
-samplesValues vs (samplesReport.Is d) = set vs 0 (d .0)
+unfoldable pub resetCalled : List ℕ → Left (Unit {0})
+resetCalled ws = changeCalled ws (wasReset (loaded ws))
 
-abbrev pub countNumber : CountReport → ℕ
-countNumber (countReport.Refused n) = n
-countNumber (countReport.Is k) = 16
+-- lent: the near frame
+unfoldable pub pushNearCalled : List ℕ → List Float → Float → Left (List Float)
+pushNearCalled ws near sample =
+    let p = pushedNear (loaded ws) near sample in
+    unlessRefused (judgedFine ws true) ws [] near (left (takingNumber (p .took .answer)) (tookWords ws (p .took)) [] (p .near))
 
-abbrev pub countValues : List ℕ → CountReport → List ℕ
-countValues vs (countReport.Refused n) = vs
-countValues vs (countReport.Is k) = set vs 0 k
+-- lent: the near frame, the retained frame, which is written, and the far window
+unfoldable pub gateCalled : List ℕ → List Float → List Float → List Float → ℕ → ℕ → Left (List Float)
+gateCalled ws near retained far head tail =
+    let g = gated (loaded ws) near retained far head tail in
+    unlessRefused (judgedFine ws true) ws [] retained (left (gateNumber (g .gated .answer)) (gatedWords ws (g .gated)) [] (g .retained))
 
--- a ratio is told by its pattern; a NaN by the one that it has in the state
-abbrev pub ratioNumber : RatioReport → ℕ
-ratioNumber (ratioReport.Refused n) = n
-ratioNumber (ratioReport.Is x) = 16
+unfoldable pub rescanCalled : List ℕ → List Float → List Float → ℕ → ℕ → Left (Unit {0})
+rescanCalled ws retained far head tail =
+    unlessRefused (judgedFine ws true) ws [] tt
+    (left (rescanNumber (rescanned (loaded ws) retained far head tail .answer)) ws [] tt)
 
-abbrev pub ratioValues : List ℕ → ℕ → RatioReport → List ℕ
-ratioValues vs old (ratioReport.Refused n) = vs
-ratioValues vs old (ratioReport.Is x) = set vs 0 (patternOf binary64 old x)
+unfoldable pub peakCalled : List ℕ → List Float → List ℕ → Left (Unit {0})
+peakCalled ws correlation vs =
+    let s = searched (loaded ws) correlation in
+    unlessRefused (judgedFine ws (fits peakValues vs)) ws vs tt (left (peakNumber (s .answer)) (searchedWords ws s) (peakTold vs (s .answer)) tt)
 
--- nothing, or at a position
-abbrev pub placeNumber : Position → ℕ
-placeNumber Nothing = 16
-placeNumber (At k) = 17
+-- ---- reports
 
-abbrev pub placeValues : List ℕ → Position → List ℕ
-placeValues vs Nothing = vs
-placeValues vs (At k) = set vs 0 k
+abbrev pub samplesCalled : List ℕ → List ℕ → SamplesReport → Left (Unit {0})
+samplesCalled ws vs report = unlessRefused (judgedFine ws (fits oneValue vs)) ws vs tt (left (samplesNumber report) ws (samplesTold vs report) tt)
 
-abbrev pub positionNumber : PositionReport → ℕ
-positionNumber (positionReport.Refused n) = n
-positionNumber (positionReport.Is place) = placeNumber place
+abbrev pub countCalled : List ℕ → List ℕ → CountReport → Left (Unit {0})
+countCalled ws vs report = unlessRefused (judgedFine ws (fits oneValue vs)) ws vs tt (left (countNumber report) ws (countTold vs report) tt)
 
-abbrev pub positionValues : List ℕ → PositionReport → List ℕ
-positionValues vs (positionReport.Refused n) = vs
-positionValues vs (positionReport.Is place) = placeValues vs place
+unfoldable pub stateFrameLenCalled : List ℕ → List ℕ → Left (Unit {0})
+stateFrameLenCalled ws vs = samplesCalled ws vs (frameLen (loaded ws))
 
-abbrev pub rangeNumber : RangeReport → ℕ
-rangeNumber (rangeReport.Refused n) = n
-rangeNumber (rangeReport.Is r) = 16
+unfoldable pub stateWindowLenCalled : List ℕ → List ℕ → Left (Unit {0})
+stateWindowLenCalled ws vs = samplesCalled ws vs (windowLen (loaded ws))
 
-abbrev pub rangeValues : List ℕ → RangeReport → List ℕ
-rangeValues vs (rangeReport.Refused n) = vs
-rangeValues vs (rangeReport.Is r) = set (set vs 0 (r .first .0)) 1 (r .last .0)
+unfoldable pub maxDelayCalled : List ℕ → List ℕ → Left (Unit {0})
+maxDelayCalled ws vs = samplesCalled ws vs (maxDelay (loaded ws))
 
--- no candidate, or a lock: its delay, the peak's position and the ratio's pattern
-abbrev pub peakNumber : PeakAnswer → ℕ
-peakNumber (peak.Refused n) = n
-peakNumber peak.NoCandidate = 16
-peakNumber (peak.Candidate lock) = 17
+unfoldable pub windowBackOffCalled : List ℕ → List ℕ → Left (Unit {0})
+windowBackOffCalled ws vs = samplesCalled ws vs (windowBackOff (loaded ws))
 
-abbrev pub peakValues : List ℕ → PeakAnswer → List ℕ
-peakValues vs (peak.Refused n) = vs
-peakValues vs peak.NoCandidate = vs
-peakValues vs (peak.Candidate lock) =
-    set (set (set vs 0 (lock .delay .0)) 1 (lock .«peak_at»)) 2 (patternOf binary64 (word vs 2) (lock .ratio))
+unfoldable pub searchRangeCalled : List ℕ → List ℕ → Left (Unit {0})
+searchRangeCalled ws vs =
+    let report = searchRange (loaded ws) in
+    unlessRefused (judgedFine ws (fits rangeValues vs)) ws vs tt (left (rangeNumber report) ws (rangeTold vs report) tt)
+
+unfoldable pub framesCalled : List ℕ → List ℕ → Left (Unit {0})
+framesCalled ws vs = countCalled ws vs (framesOf (loaded ws))
+
+unfoldable pub skippedCalled : List ℕ → List ℕ → Left (Unit {0})
+skippedCalled ws vs = countCalled ws vs (skippedOf (loaded ws))
+
+unfoldable pub lastScanRatioCalled : List ℕ → List ℕ → Left (Unit {0})
+lastScanRatioCalled ws vs =
+    let report = lastScanRatio (loaded ws) in
+    unlessRefused (judgedFine ws (fits oneValue vs)) ws vs tt (left (ratioNumber report) ws (ratioTold vs (ratioPattern ws) report) tt)
+
+unfoldable pub lastScanPeakAtCalled : List ℕ → List ℕ → Left (Unit {0})
+lastScanPeakAtCalled ws vs =
+    let report = lastScanPeakAt (loaded ws) in
+    unlessRefused (judgedFine ws (fits oneValue vs)) ws vs tt (left (positionNumber report) ws (positionTold vs report) tt)
+
+unfoldable pub lastScanOriginCalled : List ℕ → List ℕ → Left (Unit {0})
+lastScanOriginCalled ws vs = samplesCalled ws vs (lastScanOrigin (loaded ws))
+
+unfoldable pub scansCalled : List ℕ → List ℕ → Left (Unit {0})
+scansCalled ws vs = countCalled ws vs (scansOf (loaded ws))

@@ -1,5 +1,5 @@
--- What the calls of the C face answer, by number and values.
-pub mod Lent
+-- What the calls of the C face answer and leave: a definition for each.
+pub mod Face
 pub mod FloatFace
 pub mod RingFace
 pub mod ScanFace

@@ -1,45 +1,50 @@
--- The ring on the one word that a host lends, and its answers: a refusal is its number; the cases count from 16 on.
+-- The ring's calls on the word that a host lends. A ring has no setting, so its calls judge lengths alone before what the ring refuses.
 use Prim.Native.Nat.{ℕ}
-use mathlib.Core.List.{List}
-use lib.Dec.{ltb}
-use lib.ListN.{set}
-use Rattle.answers.specs.Pick.{pick}
-use Rattle.ring.specs.declared.Ring.{Ring}
-use Rattle.ring.specs.declared.Answer.{Answer}
-use Rattle.ring.specs.declared.Answer.the-variants as answer
+use mathlib.Core.Bool.{Bool, true}
+use mathlib.Core.List.{List, []}
+use lib.ListN.{length}
+use Rattle.words.specs.Words.{fits, oneValue}
+use Rattle.ring.specs.Ring.{made, pushed, pushedBuf, gotten, nextAbs, capacityOf, droppedOf, cleared}
 use Rattle.ring.specs.declared.Changed.{Changed}
 use Rattle.ring.specs.declared.Count.{Count}
-use Rattle.ring.specs.declared.Count.the-variants as count
-use Rattle.ring.specs.declared.Kept.{Kept}
-use Rattle.ring.specs.declared.Kept.the-variants as kept
-use Rattle.words.specs.Words.{word}
+use Rattle.ring_words.specs.Layout.{ringWords, loaded}
+use Rattle.ring_words.specs.Answers.{changeNumber, changedWords, countNumber, countTold, keptNumber, keptTold}
+use Rattle.trimolaveg.specs.Face.{Left, left, settingFirst, judged, unlessRefused}
 
-abbrev pub loaded : List ℕ → Ring
-loaded ws = record { accepted = word ws 0 }
+abbrev pub judgedRing : List ℕ → Bool → ℕ
+judgedRing ws valuesFit = judged (fits ringWords ws) true valuesFit
 
-abbrev pub answerNumber : Answer → ℕ
-answerNumber (answer.Refused n) = n
-answerNumber answer.Done = 16
+-- ---- calls that change the ring. The buffer is its length to a making and a clearing.
 
--- a refused call leaves the word
-unfoldable pub answered : List ℕ → Changed → List ℕ
-answered ws c = pick (ltb (answerNumber (c .answer)) 16) ws (set ws 0 (c .ring .accepted))
+abbrev pub changeLeft : {B : Type 0} → List ℕ → Changed → B → Left B
+changeLeft ws c b = left (changeNumber (c .answer)) (changedWords ws c) [] b
 
-abbrev pub countNumber : Count → ℕ
-countNumber (count.Refused n) = n
-countNumber (count.Is k) = 16
+unfoldable pub newCalled : List ℕ → List ℕ → Left (Unit {0})
+newCalled ws buf = unlessRefused (judgedRing ws true) ws [] tt (changeLeft ws (made (length buf)) tt)
 
-abbrev pub countValues : List ℕ → Count → List ℕ
-countValues vs (count.Refused n) = vs
-countValues vs (count.Is k) = set vs 0 k
+unfoldable pub pushCalled : List ℕ → List ℕ → List ℕ → Left (List ℕ)
+pushCalled ws buf xs =
+    unlessRefused (judgedRing ws true) ws [] buf
+    (changeLeft ws (pushed (loaded ws) (length buf) (length xs)) (pushedBuf (loaded ws) buf xs))
 
--- not kept, or kept at a place of the buffer
-abbrev pub keptNumber : Kept → ℕ
-keptNumber (kept.Refused n) = n
-keptNumber kept.NotKept = 16
-keptNumber (kept.At place) = 17
+unfoldable pub clearCalled : List ℕ → List ℕ → Left (Unit {0})
+clearCalled ws buf = unlessRefused (judgedRing ws true) ws [] tt (changeLeft ws (cleared (loaded ws) (length buf)) tt)
 
-abbrev pub keptValues : List ℕ → Kept → List ℕ
-keptValues vs (kept.Refused n) = vs
-keptValues vs kept.NotKept = vs
-keptValues vs (kept.At place) = set vs 0 place
+-- ---- reports
+
+unfoldable pub getCalled : List ℕ → List ℕ → ℕ → List ℕ → Left (Unit {0})
+getCalled ws buf at vs =
+    let kept = gotten (loaded ws) (length buf) at in
+    unlessRefused (judgedRing ws (fits oneValue vs)) ws vs tt (left (keptNumber kept) ws (keptTold vs kept) tt)
+
+abbrev pub countCalled : List ℕ → List ℕ → Count → Left (Unit {0})
+countCalled ws vs count = unlessRefused (judgedRing ws (fits oneValue vs)) ws vs tt (left (countNumber count) ws (countTold vs count) tt)
+
+unfoldable pub nextAbsCalled : List ℕ → List ℕ → List ℕ → Left (Unit {0})
+nextAbsCalled ws buf vs = countCalled ws vs (nextAbs (loaded ws) (length buf))
+
+unfoldable pub capacityCalled : List ℕ → List ℕ → List ℕ → Left (Unit {0})
+capacityCalled ws buf vs = countCalled ws vs (capacityOf (loaded ws) (length buf))
+
+unfoldable pub droppedCalled : List ℕ → List ℕ → List ℕ → Left (Unit {0})
+droppedCalled ws buf vs = countCalled ws vs (droppedOf (loaded ws) (length buf))

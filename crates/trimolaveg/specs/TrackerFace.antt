@@ -1,71 +1,41 @@
--- The tracker's answers on the C face: a refusal is its number; the cases count from 16 on, in document 01's order.
+-- The tracker's calls on the words that a host lends.
 use Prim.Native.Nat.{ℕ}
-use mathlib.Core.Bool.{true, false}
-use mathlib.Core.List.{List}
+use mathlib.Core.Bool.{Bool, true, false}
+use mathlib.Core.List.{List, []}
 use lib.Dec.{ltb, eqb}
-use lib.ListN.{set}
 use Rattle.answers.specs.Pick.{pick}
-use Rattle.answers.specs.Numbers.{limit}
+use Rattle.answers.specs.Numbers.{limit, allowedRate}
 use Rattle.units.specs.Units.{samples}
-use Rattle.tracker.specs.declared.Answer.{Answer}
-use Rattle.tracker.specs.declared.Answer.the-variants as answer
-use Rattle.tracker.specs.declared.Count.{Count}
-use Rattle.tracker.specs.declared.Count.the-variants as count
-use Rattle.tracker.specs.declared.Flag.{Flag}
-use Rattle.tracker.specs.declared.Flag.the-variants as flag
+use Rattle.words.specs.Words.{fits, oneValue}
+use Rattle.tracker.specs.declared.Changed.{Changed}
+use Rattle.tracker.specs.declared.Cycled.{Cycled}
 use Rattle.tracker.specs.declared.Delay.the-variants.{At}
+use Rattle.tracker.specs.declared.Flag.{Flag}
 use Rattle.tracker.specs.declared.Outcome.{Outcome}
 use Rattle.tracker.specs.declared.Outcome.the-variants.{Candidate, Unconfident}
-use Rattle.tracker.specs.declared.Trigger.{Trigger}
-use Rattle.tracker.specs.declared.Trigger.the-variants.{Edge, Lost, Jump, Seam}
-use Rattle.tracker.specs.declared.Verdict.{Verdict}
-use Rattle.tracker.specs.declared.Verdict.the-variants as verdict
 use Rattle.tracker.specs.declared.Tracker.{Tracker}
-use Rattle.tracker.specs.declared.Cycled.{Cycled}
-use Rattle.tracker.specs.Tracker.{evidence}
+use Rattle.tracker.specs.Tracker.{evidence, made, seamed, jumpCycles, suspected, quiescent}
 use Rattle.tracker.specs.Cycle.{cycled}
-use Rattle.tracker_words.specs.Layout.{loaded}
+use Rattle.tracker_words.specs.Layout.{trackerWords, loaded}
+use Rattle.tracker_words.specs.Answers.{changeNumber, changedWords, flagNumber, countNumber, countTold, verdictNumber, verdictTold, cycledWords}
+use Rattle.trimolaveg.specs.Face.{Left, left, settingFirst, judged, unlessRefused}
 
--- ---- answers
+-- the setting of a tracker is its rate
+abbrev pub judgedTracker : List ℕ → Bool → ℕ
+judgedTracker ws valuesFit = judged (fits trackerWords ws) (allowedRate (loaded ws .rate)) valuesFit
 
-abbrev pub answerNumber : Answer → ℕ
-answerNumber (answer.Refused n) = n
-answerNumber answer.Done = 16
+-- ---- calls that change the tracker
 
--- no and yes
-abbrev pub flagNumber : Flag → ℕ
-flagNumber (flag.Refused n) = n
-flagNumber (flag.Is said) = pick said 17 16
+abbrev pub changeLeft : List ℕ → Changed → Left (Unit {0})
+changeLeft ws c = left (changeNumber (c .answer)) (changedWords ws c) [] tt
 
-abbrev pub countNumber : Count → ℕ
-countNumber (count.Refused n) = n
-countNumber (count.Is k) = 16
+unfoldable pub newCalled : List ℕ → ℕ → Left (Unit {0})
+newCalled ws rate = unlessRefused (settingFirst (allowedRate rate) (fits trackerWords ws)) ws [] tt (changeLeft ws (made rate))
 
-abbrev pub countValues : List ℕ → Count → List ℕ
-countValues vs (count.Refused n) = vs
-countValues vs (count.Is k) = set vs 0 k
+unfoldable pub onDiscontinuityCalled : List ℕ → Left (Unit {0})
+onDiscontinuityCalled ws = unlessRefused (judgedTracker ws true) ws [] tt (changeLeft ws (seamed (loaded ws)))
 
-abbrev pub triggerNumber : Trigger → ℕ
-triggerNumber Edge = 18
-triggerNumber Lost = 19
-triggerNumber Jump = 20
-triggerNumber Seam = 21
-
-abbrev pub verdictNumber : Verdict → ℕ
-verdictNumber (verdict.Refused n) = n
-verdictNumber verdict.Hold = 16
-verdictNumber (verdict.Move to) = 17
-verdictNumber (verdict.Reacquire trigger) = triggerNumber trigger
-
--- a move writes where to
-abbrev pub verdictValues : List ℕ → Verdict → List ℕ
-verdictValues vs (verdict.Refused n) = vs
-verdictValues vs verdict.Hold = vs
-verdictValues vs (verdict.Move to) = set vs 0 (to .0)
-verdictValues vs (verdict.Reacquire trigger) = vs
-
--- ---- a cycle by its kind: 0 unconfident, 1 interior, 2 edge
-
+-- a cycle by its kind: 0 unconfident, 1 interior, 2 edge
 unfoldable pub outcomeOf : ℕ → ℕ → Outcome
 outcomeOf kind delay = pick (eqb kind 1) (Candidate (samples delay) true) (pick (eqb kind 2) (Candidate (samples delay) false) Unconfident)
 
@@ -73,5 +43,26 @@ outcomeOf kind delay = pick (eqb kind 1) (Candidate (samples delay) true) (pick 
 unfoldable pub judgedAs : Tracker → ℕ → Tracker
 judgedAs t kind = pick (ltb kind 3) t (evidence t (At (samples limit)) (t .prev) (t .edges) (t .jumps) (t .unconfident) (t .suspect))
 
-abbrev pub cycledOn : List ℕ → ℕ → ℕ → ℕ → Cycled
-cycledOn ws alignment kind delay = cycled (judgedAs (loaded ws) kind) (samples alignment) (outcomeOf kind delay)
+unfoldable pub cycledOn : Tracker → ℕ → ℕ → ℕ → Cycled
+cycledOn t alignment kind delay = cycled (judgedAs t kind) (samples alignment) (outcomeOf kind delay)
+
+unfoldable pub onCycleCalled : List ℕ → ℕ → ℕ → ℕ → List ℕ → Left (Unit {0})
+onCycleCalled ws alignment kind delay vs =
+    let c = cycledOn (loaded ws) alignment kind delay in
+    unlessRefused (judgedTracker ws (fits oneValue vs)) ws vs tt (left (verdictNumber (c .verdict)) (cycledWords ws c) (verdictTold vs (c .verdict)) tt)
+
+-- ---- reports
+
+unfoldable pub jumpCyclesCalled : List ℕ → List ℕ → Left (Unit {0})
+jumpCyclesCalled ws vs =
+    let count = jumpCycles (loaded ws) in
+    unlessRefused (judgedTracker ws (fits oneValue vs)) ws vs tt (left (countNumber count) ws (countTold vs count) tt)
+
+abbrev pub flagCalled : List ℕ → Flag → Left (Unit {0})
+flagCalled ws flag = unlessRefused (judgedTracker ws true) ws [] tt (left (flagNumber flag) ws [] tt)
+
+unfoldable pub suspectCalled : List ℕ → Left (Unit {0})
+suspectCalled ws = flagCalled ws (suspected (loaded ws))
+
+unfoldable pub quiescentCalled : List ℕ → Left (Unit {0})
+quiescentCalled ws = flagCalled ws (quiescent (loaded ws))

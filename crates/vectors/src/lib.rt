@@ -1,4 +1,6 @@
 // What the programs that replay stored vectors share: little-endian numbers, made-up samples, patterns of floats, and the tally that they write.
+pub mod buffers; // parts of buffers, and entries that records write
+pub mod files; // the records of a file
 pub mod patterns; // floats and their bits, and the hash of a buffer
 pub mod signals; // the samples of stored calls
 

@@ -25,6 +25,10 @@ patternOf f old x = pick (isNan x) (pick (nanBits f old) old (toBits f nan)) (to
 abbrev pub flagOf : Bool → ℕ
 flagOf b = pick b 1 0
 
--- a list of words that has another length than its layout says is refused with 2 before anything is judged: there is nothing to read
+-- a report of one number is lent a list of one value
+abbrev pub oneValue : ℕ
+oneValue = 1
+
+-- whether a list has the length that its layout says
 abbrev pub fits : ℕ → List ℕ → Bool
 fits n ws = eqb (length ws) n

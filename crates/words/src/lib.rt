@@ -6,6 +6,9 @@ ghost use lib.ListN.{length};
 ghost use Rattle.words.specs.Words;
 ghost use Rattle.words.specs.Words.{allBelow, patternOf, flagOf};
 
+// How many values a report of one number has.
+pub const ONE_VALUE: usize = 1;
+
 const SIGN: u64 = 0x8000_0000_0000_0000;
 
 const INFINITE: u64 = 0x7ff0_0000_0000_0000;

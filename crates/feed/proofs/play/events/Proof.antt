@@ -128,8 +128,8 @@ end-requires c κs =
     let r = t .before .before .before .before .before .before .before .before .before .before .before .before .before .before .before .before .before .before .before .before .before .before in
     omega (arith, r .room .ensures, t .turn .kept .1 .1 .1 .1 .1 .1 .1 .1 .1 .1 .1 .1 .1 .1 .0)
 
-until-requires : tie.Need-until-requires Inv-loop μ-loop
-until-requires c κs = search needs
+taken-requires : tie.Need-taken-requires Inv-loop μ-loop
+taken-requires c κs = search needs
 
 ended-requires : tie.Need-ended-requires Inv-loop μ-loop
 ended-requires c κs = search needs
@@ -202,7 +202,7 @@ returns-2 c =
     let u = c .before .before .before in
     let e = u .before in
     let g = e .before .before .before .before .before .before .before .before .before .before .before .before .before .before .before .before .before .before .before .before .before .before .before .before .before .before .before .before .before .before .before .before .before .before .before .before in
-    (rw (c .so-far2 .ensures .0) (g .gather .ensures .0), rw (c .so-far2 .ensures .1) (omega (arith, u .until .ensures, e .end .ensures)))
+    (rw (c .so-far2 .ensures .0) (g .gather .ensures .0), rw (c .so-far2 .ensures .1) (omega (arith, u .taken .ensures, e .end .ensures)))
 
 add-number : tie.Need-add-number Inv-loop μ-loop
 add-number c =
@@ -222,7 +222,7 @@ loop-again c =
     let t = e .before .before .before .before .before .before .before .before .before .before .before .before .before .before .before .before .before .before in
     let g = t .before .before .before .before .before .before .before .before .before .before .before .before .before .before .before .before .before .before in
     let l = g .before .before .before .before .before .before .before .before .before in
-    (g .gather .ensures .0, omega (arith, u .until .ensures, e .end .ensures), g .gather .kept .1 .1 .1 .0 ∙ l .loop .inv .2, g .gather .kept .1 .1 .1 .1 .0 ∙ l .loop .inv .3, t .turn .kept .1 .1 .1 .1 .1 .1 .1 .0 ∙ l .loop .inv .4, t .turn .kept .1 .1 .1 .1 .1 .1 .1 .1 .0 ∙ l .loop .inv .5, t .turn .kept .1 .1 .1 .1 .1 .1 .1 .1 .1 .0 ∙ l .loop .inv .6, t .turn .kept .1 .1 .1 .1 .1 .1 .1 .1 .1 .1 .0 ∙ l .loop .inv .7, t .turn .kept .1 .1 .1 .1 .1 .1 .1 .1 .1 .1 .1 .0 ∙ l .loop .inv .8, t .turn .kept .1 .1 .1 .1 .1 .1 .1 .1 .1 .1 .1 .1 .0 ∙ l .loop .inv .9, t .turn .kept .1 .1 .1 .1 .1 .1 .1 .1 .1 .1 .1 .1 .1 .0 ∙ l .loop .inv .10, t .turn .kept .1 .1 .1 .1 .1 .1 .1 .1 .1 .1 .1 .1 .1 .1 .0 ∙ l .loop .inv .11)
+    (g .gather .ensures .0, omega (arith, u .taken .ensures, e .end .ensures), g .gather .kept .1 .1 .1 .0 ∙ l .loop .inv .2, g .gather .kept .1 .1 .1 .1 .0 ∙ l .loop .inv .3, t .turn .kept .1 .1 .1 .1 .1 .1 .1 .0 ∙ l .loop .inv .4, t .turn .kept .1 .1 .1 .1 .1 .1 .1 .1 .0 ∙ l .loop .inv .5, t .turn .kept .1 .1 .1 .1 .1 .1 .1 .1 .1 .0 ∙ l .loop .inv .6, t .turn .kept .1 .1 .1 .1 .1 .1 .1 .1 .1 .1 .0 ∙ l .loop .inv .7, t .turn .kept .1 .1 .1 .1 .1 .1 .1 .1 .1 .1 .1 .0 ∙ l .loop .inv .8, t .turn .kept .1 .1 .1 .1 .1 .1 .1 .1 .1 .1 .1 .1 .0 ∙ l .loop .inv .9, t .turn .kept .1 .1 .1 .1 .1 .1 .1 .1 .1 .1 .1 .1 .1 .0 ∙ l .loop .inv .10, t .turn .kept .1 .1 .1 .1 .1 .1 .1 .1 .1 .1 .1 .1 .1 .1 .0 ∙ l .loop .inv .11)
 
 so-far-requires-3 : tie.Need-so-far-requires-3 Inv-loop μ-loop
 so-far-requires-3 c κs = search needs
@@ -308,7 +308,7 @@ events-spec =
     lengths-requires
     turn-requires
     end-requires
-    until-requires
+    taken-requires
     ended-requires
     so-far-requires-2
     same-length-11

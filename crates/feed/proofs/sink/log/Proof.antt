@@ -5,8 +5,9 @@ use Rattle.feed.proofs.sink.log.Statement.{statement}
 use Rattle.feed.proofs.sink.log.Tie as tie
 use Rattle.feed.proofs.sink.log.Reads as reads
 use Rattle.feed.proofs.sink.log.Lts as lts
+use Rattle.feed.proofs.sink.failed.Reads as failed-reads
 use Rattle.feed.proofs.sink.until.Reads as until-reads
-use Rattle.lines.proofs.write_line.Reads as write-line-reads
+use Rattle.log_lines.proofs.write_line.Reads as write-line-reads
 
 sub-most : tie.Need-sub-most
 sub-most c = search needs
@@ -25,6 +26,9 @@ write-line-requires c κs = search needs
 
 enum-told : tie.Need-enum-told
 enum-told c = search needs
+
+failed-requires : tie.Need-failed-requires
+failed-requires c κs = search needs
 
 enum-known-n : tie.Need-enum-known-n
 enum-known-n c = search needs
@@ -46,6 +50,9 @@ same-length c = search needs
 
 returns : tie.Need-returns
 returns c = simp length-set (search needs)
+
+failed-requires-2 : tie.Need-failed-requires-2
+failed-requires-2 c κs = search needs
 
 same-length-2 : tie.Need-same-length-2
 same-length-2 c = search needs
@@ -69,6 +76,7 @@ log-spec =
     part-write-line-end
     write-line-requires
     enum-told
+    failed-requires
     enum-known-n
     add-end
     slice-write-out
@@ -76,6 +84,7 @@ log-spec =
     until-requires
     same-length
     returns
+    failed-requires-2
     same-length-2
     returns-2
     same-length-3

@@ -8,8 +8,8 @@ use Rattle.feed.proofs.whole.sized.Reads as reads
 use Rattle.feed.proofs.whole.sized.Lts as lts
 use Rattle.feed.proofs.whole.least.Reads as least-reads
 use Rattle.feed.proofs.whole.started.Reads as started-reads
-use Rattle.scan.proofs.rules.envelope_len.Reads as envelope-len-reads
-use Rattle.scan.proofs.rules.geometry_of.Reads as geometry-of-reads
+use Rattle.scan_calls.proofs.rules.envelope_len.Reads as envelope-len-reads
+use Rattle.scan_calls.proofs.rules.geometry_of.Reads as geometry-of-reads
 
 geometry-of-requires : tie.Need-geometry-of-requires
 geometry-of-requires c κs = search needs

@@ -5,7 +5,7 @@ use mathlib.Core.Path.{_≡_, refl, _∙_}
 use mathlib.Core.Bool.{false}
 use native.Mathlib.Omega.{arith}
 use lib.ListN.{length, drop, drop-of-length-le}
-use Rattle.scoring.specs.Observing.{lent}
+use Rattle.scan_score.specs.Observing.{lent}
 use Rattle.replay.specs.Events.{nearPlayed}
 use Rattle.replay.proofs.Going.{Kept, Underway, begins, done, halted, again}
 use Rattle.replay.proofs.Passing.{from-on, room, runs-on}

@@ -1,7 +1,7 @@
 -- `starting::refusal` meets its contract.
 use mathlib.Core.Path.{refl}
 use Rattle.answers.proofs.Cases.{cases}
-use Rattle.scan.proofs.Chains.{refuses, passes}
+use Rattle.scan_calls.proofs.Chains.{refuses, passes}
 use Rattle.replay.specs.Library.{startRefusal}
 use borrow.Author.Needs.{needs}
 use Rattle.replay.proofs.starting.refusal.Statement.{statement}

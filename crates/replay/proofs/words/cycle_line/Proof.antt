@@ -1,9 +1,9 @@
 -- `words::cycle_line` meets its contract: arm by arm.
 use borrow.Author.Needs.{needs}
 use mathlib.Core.Path.{ap}
-use Rattle.lines.specs.declared.Line.the-variants as line
-use Rattle.lines.specs.declared.Verdict.the-variants as loggedVerdict
-use Rattle.lines.specs.declared.Trigger.{Trigger}
+use Rattle.log_lines.specs.declared.Line.the-variants as line
+use Rattle.log_lines.specs.declared.Verdict.the-variants as loggedVerdict
+use Rattle.log_lines.specs.declared.Trigger.{Trigger}
 use Rattle.replay.specs.Words.{cycleLine}
 use Rattle.replay.proofs.words.cycle_line.Statement.{statement}
 use Rattle.replay.proofs.words.cycle_line.Tie as tie

@@ -1,7 +1,7 @@
 -- `words::word_of` meets its contract: arm by arm.
 use borrow.Author.Needs.{needs}
 use mathlib.Core.Path.{ap}
-use Rattle.lines.specs.declared.Word.the-variants as word
+use Rattle.log_lines.specs.declared.Word.the-variants as word
 use Prim.Native.Nat.{ℕ}
 use Rattle.replay.specs.Words.{wordOf}
 use Rattle.replay.proofs.words.word_of.Statement.{statement}

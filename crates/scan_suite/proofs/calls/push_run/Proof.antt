@@ -7,10 +7,10 @@ use Rattle.scan_suite.proofs.calls.push_run.Statement.{statement}
 use Rattle.scan_suite.proofs.calls.push_run.Tie as tie
 
 abbrev Inv-loop : tie.InvT-loop
-Inv-loop levels₀ call signal done₀ i₀ levels done i = length levels ≡ length levels₀
+Inv-loop levels₀ call signal took₀ i₀ levels took i = length levels ≡ length levels₀
 
 abbrev μ-loop : tie.MeasureT-loop
-μ-loop levels₀ call signal done₀ i₀ levels done i = call .count - i
+μ-loop levels₀ call signal took₀ i₀ levels took i = call .count - i
 
 loop-holds : tie.Need-loop-holds Inv-loop μ-loop
 loop-holds c = search needs

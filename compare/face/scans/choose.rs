@@ -1,0 +1,117 @@
+//! The next call of a scan.
+
+use super::shape::Call;
+use super::teleport;
+use super::world::World;
+use crate::choices;
+use crate::lent::Lent;
+use crate::random::Random;
+
+pub const RATES: [u32; 14] = [
+    8000, 8499, 8500, 9499, 11025, 12000, 16000, 22050, 32000, 44100, 48000, 88200, 96000, 192000,
+];
+const CEILINGS: [u32; 12] = [1, 2, 3, 5, 7, 8, 9, 12, 16, 20, 31, 40];
+
+/// A new scan of some rate and ceiling. Spans are small mostly, so that many frames are scored in the time.
+pub fn world(random: &mut Random) -> World {
+    let rate = match random.below(3) {
+        0 => random.between(8000, 192_000) as u32,
+        _ => random.one_of(&RATES),
+    };
+    let ceiling = match random.below(60) {
+        0 => random.between(100, 600) as u32,
+        1..=5 => random.between(40, 100) as u32,
+        _ => random.one_of(&CEILINGS),
+    };
+    let mut w = World::new(rate, ceiling);
+    if !random.once_in(4) {
+        teleport::far(random, &mut w);
+    }
+    w
+}
+
+/// Now and then a legal state that calls alone would take long to reach. Says whether it is one.
+pub fn travel(random: &mut Random, w: &mut World) -> bool {
+    match random.below(64) {
+        0 => teleport::sums(random, w),
+        1..=5 if !w.finished() => teleport::near(random, w),
+        6 if !w.finished() => teleport::nearly_full(random, w),
+        7 if random.once_in(40) => teleport::far(random, w),
+        8 if random.once_in(4) => w.set_word(18, choices::odd32(random) as u64),
+        9 if random.once_in(4) => teleport::region(random, w),
+        _ => return false,
+    }
+    true
+}
+
+/// `index` is what the next near sample has if nothing is skipped.
+pub fn call(random: &mut Random, w: &mut World, index: &mut u64) -> Call {
+    let full = w.word(12) == w.bins().frame;
+    if full && random.once_in(2) {
+        return Call::Observe;
+    }
+    if w.finished() && random.once_in(12) {
+        return Call::Rearm;
+    }
+    match random.below(100) {
+        0 if random.once_in(3) => making(random, w),
+        1 if random.once_in(3) => Call::Reset,
+        0..=3 => Call::Rearm,
+        4..=5 => Call::DiscardNear,
+        6..=27 => far_push(random, w),
+        28..=64 => near_push(random, w, index),
+        65..=67 => Call::Observe,
+        68..=71 => Call::BinSamples,
+        72..=75 => Call::CeilingSamples,
+        76..=79 => Call::Frames,
+        80..=83 => Call::Correlation,
+        84..=87 => Call::Region,
+        88..=91 => Call::BeyondCeiling,
+        92..=95 => Call::Finished,
+        _ => Call::Exhausted,
+    }
+}
+
+/// For the same setting, for one of the same lengths, or for any numbers at all.
+fn making(random: &mut Random, w: &World) -> Call {
+    let (rate, ceiling) = (w.word(0) as u32, w.word(1) as u32);
+    let own = |random: &mut Random, value: u32| match random.below(4) {
+        0 => choices::word(random, value as u64) as u32,
+        _ => value,
+    };
+    match random.below(3) {
+        0 => Call::New { rate, ceiling },
+        1 => Call::New {
+            rate: random.one_of(&[7_999, 8_000, 16_000, 48_000, 96_000, 192_000, 192_001]),
+            ceiling,
+        },
+        _ => Call::New {
+            rate: own(random, rate),
+            ceiling: own(random, ceiling),
+        },
+    }
+}
+
+fn far_push(random: &mut Random, w: &mut World) -> Call {
+    let most = random.one_of(&[3, 20, 20, 20, 300]);
+    let len = random.between(0, most);
+    let samples: Vec<f32> = (0..len).map(|_| choices::sample(random)).collect();
+    w.samples = Lent::of(&samples);
+    Call::PushFar
+}
+
+/// The index goes on, begins a frame, or is any number at all.
+fn near_push(random: &mut Random, w: &World, next: &mut u64) -> Call {
+    let index = match random.below(20) {
+        0 => choices::huge(random),
+        1 => random.word() >> 3,
+        2..=6 => random.below(1 << 30) * w.bins().decimation,
+        _ => *next,
+    };
+    *next = index.wrapping_add(1);
+    let sample = match random.once_in(20) {
+        true => f32::from_bits(choices::odd32(random)),
+        false => choices::sample(random),
+    };
+    Call::PushNear { sample, index }
+}

@@ -1,6 +1,0 @@
-pub mod Numbers
-pub mod Pushing
-pub mod Holds
-pub mod Groups
-pub mod Calls
-pub mod Determined

@@ -1,4 +1,0 @@
--- What the functions behind the pushes ask of their arguments. What the pushes do is defined in crate coarse.
-pub mod Ready
-pub mod Envelope
-pub mod Onward

@@ -1,0 +1,32 @@
+-- `fine_words::answering::taking_number` meets its contract.
+use Rattle.fine_words.specs.Answers.{takingNumber}
+use borrow.Author.Needs.{needs}
+use Rattle.fine_words.proofs.answering.taking_number.Statement.{statement}
+use Rattle.fine_words.proofs.answering.taking_number.Tie as tie
+
+enum-known-answer : tie.Need-enum-known-answer
+enum-known-answer c = search needs
+
+cast-result : tie.Need-cast-result
+cast-result c = search needs
+
+enum-told : tie.Need-enum-told
+enum-told c = search needs
+
+enum-told-2 : tie.Need-enum-told-2
+enum-told-2 c = search needs
+
+returns : tie.Need-returns
+unfolding takingNumber
+returns c = search needs
+
+returns-2 : tie.Need-returns-2
+unfolding takingNumber
+returns-2 c = search needs
+
+returns-3 : tie.Need-returns-3
+unfolding takingNumber
+returns-3 c = search needs
+
+pub taking-number-spec : {M : Type 1} → statement M
+taking-number-spec = tie.close (tie.spec enum-known-answer cast-result enum-told enum-told-2 returns returns-2 returns-3)

@@ -1,0 +1,31 @@
+-- `fine_words::answering::tell_position` meets its contract.
+use Rattle.fine_words.specs.Answers.{positionNumber, positionTold}
+use borrow.Author.Needs.{needs}
+use Rattle.fine_words.proofs.answering.tell_position.Statement.{statement}
+use Rattle.fine_words.proofs.answering.tell_position.Tie as tie
+
+enum-known-report : tie.Need-enum-known-report
+enum-known-report c = search needs
+
+cast-result : tie.Need-cast-result
+cast-result c = search needs
+
+enum-known-report-2 : tie.Need-enum-known-report-2
+enum-known-report-2 c = search needs
+
+tell-place-requires : tie.Need-tell-place-requires
+tell-place-requires c κs = search needs
+
+returns : tie.Need-returns
+unfolding positionNumber positionTold
+returns c = search needs
+
+same-length : tie.Need-same-length
+same-length c = search needs
+
+returns-2 : tie.Need-returns-2
+unfolding positionNumber positionTold
+returns-2 c = (cc, cc)
+
+pub tell-position-spec : {M : Type 1} → statement M
+tell-position-spec = tie.close (tie.spec enum-known-report cast-result enum-known-report-2 tell-place-requires returns same-length returns-2)

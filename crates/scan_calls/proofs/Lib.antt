@@ -1,0 +1,4 @@
+pub mod Chains
+pub mod Passing
+pub mod Calls
+pub mod Determined

@@ -1,0 +1,5 @@
+pub mod Made
+pub mod Runs
+pub mod Followed
+pub mod Forgets
+pub mod Passed

@@ -1,0 +1,53 @@
+// How far and near samples become levels: the two pushes. No call has a `requires`; what each of them does is defined in crate scan.
+// The modules have the functions behind the calls.
+pub mod level; // what both pushes have in common
+mod sums; // the sums of a far push
+pub mod far; // a push of far samples
+pub mod near; // one near sample
+
+use scan::Changed;
+use scan::Scan;
+use scan::Taking;
+use scan::Took;
+ghost use mathlib.Core.Path.{_≡_};
+ghost use Rattle.scan.specs.Bins.{fullSlack};
+ghost use Rattle.scan.specs.Calls.{pushedFar, pushedNear};
+
+// Far samples, in played order.
+pub fn push_far(scan: Scan, envelope: &mut [f32], samples: &[f32]) -> Changed
+    ensures changed { λ r. ⌜ r ≡ pushedFar fullSlack scan (now (envelope .entry)) (now (samples .entry)) .changed ⌝ }
+    ensures envelope { λ r. ⌜ now (envelope .exit) ≡ pushedFar fullSlack scan (now (envelope .entry)) (now (samples .entry)) .envelope ⌝ }
+{
+    far::push(scan_calls::SLACK, scan, envelope, samples)
+}
+
+// One near sample with its index.
+pub fn push_near(scan: Scan, levels: &mut [f32], sample: f32, index: u64) -> Took
+    ensures took { λ r. ⌜ r ≡ pushedNear scan (now (levels .entry)) sample index .took ⌝ }
+    ensures levels { λ r. ⌜ now (levels .exit) ≡ pushedNear scan (now (levels .entry)) sample index .levels ⌝ }
+{
+    let n = near::refusal(scan, levels, sample, index);
+    if n != 0 {
+        return Took {
+            scan,
+            answer: Taking::Refused(n),
+        };
+    }
+    let g = scan.geometry;
+    let near = scan.near;
+    let verdict = scan.verdict;
+    if scan_calls::rules::finished(verdict) {
+        return Took {
+            scan,
+            answer: Taking::Ignored,
+        };
+    }
+    if near::dropped(g, near, index) {
+        return Took {
+            scan,
+            answer: Taking::Dropped,
+        };
+    }
+    let gathered = near::gather(g, near, levels, sample, index);
+    near::taken(scan, gathered)
+}

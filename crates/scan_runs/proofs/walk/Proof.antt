@@ -1,0 +1,200 @@
+-- `scan_runs::walk` meets its contract: the invariant is `Going`.
+use Prim.Native.Nat.{ℕ, zero, suc, _+_, _-_, _^_, _≤_, _<_}
+use mathlib.Core.Path.{_≡_, refl, sym, ap, _∙_}
+use native.Mathlib.Omega.{arith}
+use lib.ListN.{length, take, drop, length-take}
+use borrow.Author.Needs.{needs}
+use borrow.Author.Tests.{not-true, not-false}
+use Rattle.answers.specs.Numbers.{limit}
+use Rattle.scan_runs.proofs.Passing.{bounded}
+use Rattle.scan_runs.proofs.Going.{Going, Leap, starts, leaps, through, ends, below, gathers-if, goes}
+use Rattle.scan_runs.proofs.walk.Statement.{statement}
+use Rattle.scan_runs.proofs.walk.Tie as tie
+
+abbrev Inv-loop : tie.InvT-loop
+Inv-loop scan levels₀ samples first g near₀ index₀ i₀ levels near index i = (length levels ≡ length levels₀) × Going scan levels₀ samples first near levels index i × (index < 2 ^ 64)
+
+abbrev μ-loop : tie.MeasureT-loop
+μ-loop scan levels₀ samples first g near₀ index₀ i₀ levels near index i = length samples - i
+
+loop-holds : tie.Need-loop-holds Inv-loop μ-loop
+loop-holds c =
+    let k = c .before .before .before .before in
+    (refl, starts (k .args .scan) (k .args .levels .now) (k .args .samples .now) (k .args .first) (k .pre), omega arith)
+
+sub-reach : tie.Need-sub-reach Inv-loop μ-loop
+sub-reach c = omega arith
+
+reach-requires : tie.Need-reach-requires Inv-loop μ-loop
+reach-requires c κs =
+    let k = c .before .loop .inv .1 .ready in
+    (k .partial, bounded _ _ k .decimation, omega arith)
+
+add-end : tie.Need-add-end Inv-loop μ-loop
+add-end c = omega (arith, c .reach .ensures .within)
+
+mul-stretch : tie.Need-mul-stretch Inv-loop μ-loop
+mul-stretch c = search needs
+
+sub-stretch : tie.Need-sub-stretch Inv-loop μ-loop
+sub-stretch c = search needs
+
+part-stretch-start : tie.Need-part-stretch-start Inv-loop μ-loop
+part-stretch-start c = omega (arith, c .reach .ensures .within)
+
+part-stretch-end : tie.Need-part-stretch-end Inv-loop μ-loop
+part-stretch-end c = omega (arith, c .reach .ensures .within)
+
+stretch-requires : tie.Need-stretch-requires Inv-loop μ-loop
+stretch-requires c κs =
+    let l = c .before .before .before .loop in
+    let samples = c .before .before .before .before .before .before .before .before .args .samples .now in
+    let k = l .inv .1 .ready in
+    omega (arith, length-take (l .i + c .before .reach .result - l .i) (drop (l .i) samples), k .partial, bounded _ _ k .decimation, c .before .reach .ensures .partial)
+
+-- the samples that were summed at once
+leap : (c : tie.After-stretch Inv-loop μ-loop)
+    → let l = c .before .before .before .before .loop in let a = c .before .before .before .before .before .before .before .before .before .args in Leap (a .scan) (a .levels .now) (a .samples .now) (a .first) (l .near) (l .levels) (l .index) (l .i) (c .stretch .result)
+leap c =
+    let l = c .before .before .before .before .loop in
+    let a = c .before .before .before .before .before .before .before .before .before .args in
+    let m = c .before .before .reach .result in
+    let size : l .i + m - l .i ≡ m = omega arith in
+    leaps (a .scan) (a .levels .now) (a .samples .now) (a .first) (l .near) (l .levels) (l .index) (l .i) (l .inv .1) m _ (c .stretch .result) (c .before .before .reach .ensures)
+    (ap (λ (z : ℕ). take z (drop (l .i) (a .samples .now))) size) (c .stretch .ensures)
+
+sub-taken : tie.Need-sub-taken Inv-loop μ-loop
+sub-taken c = leap (c .before .before) .onward
+
+-- none was, or their indices are below the limit
+fitting : (index n : ℕ) → index < 2 ^ 64 → (0 < n → index + n ≤ limit) → index + n < 2 ^ 64
+fitting index zero h f = omega arith
+fitting index (suc n) h f = omega (arith, f (omega arith))
+
+add-index : tie.Need-add-index Inv-loop μ-loop
+add-index c =
+    let p = c .before .before in
+    let l = p .before .before .before .before .loop in
+    omega (arith, fitting (l .index) (p .stretch .result .count - l .near .count) (l .inv .2) (leap p .small))
+
+add-i : tie.Need-add-i Inv-loop μ-loop
+add-i c = omega (arith, leap (c .before .before) .less)
+
+mul-x : tie.Need-mul-x Inv-loop μ-loop
+mul-x c = omega (arith, leap (c .before .before) .less)
+
+shared-slice-read-x : tie.Need-shared-slice-read-x Inv-loop μ-loop
+shared-slice-read-x c = leap (c .before .before .before) .less
+
+passable-requires : tie.Need-passable-requires Inv-loop μ-loop
+passable-requires c κs = let k = leap (c .before .before .before) .going .ready in (k .partial, k .room)
+
+with-near-requires : tie.Need-with-near-requires Inv-loop μ-loop
+with-near-requires c κs = search needs
+
+same-length : tie.Need-same-length Inv-loop μ-loop
+same-length c = c .before .before .before .before .before .before .before .before .before .before .loop .inv .0
+
+returns : tie.Need-returns Inv-loop μ-loop
+returns c =
+    let p = c .before .before .before .before .before .before in
+    let l = p .before .before .before .before .loop in
+    let a = p .before .before .before .before .before .before .before .before .before .args in
+    let n = p .stretch .result in
+    let t = n .count - l .near .count in
+    let e = ends (a .scan) (a .levels .now) (a .samples .now) (a .first) n (l .levels) (l .index + t) (l .i + t) (leap p .going) (leap p .less)
+    (sym (c .before .before .passable .ensures) ∙ not-true _ (c .before .if1 .taken)) in
+    rw (c .with-near .ensures) e
+
+step-requires : tie.Need-step-requires Inv-loop μ-loop
+step-requires c κs =
+    let p = c .before .before .before .before .before .before in
+    let l = p .before .before .before .before .loop in
+    let a = p .before .before .before .before .before .before .before .before .before .args in
+    let n = p .stretch .result in
+    let t = n .count - l .near .count in (
+      omega (arith, leap p .going .ready .partial),
+      gathers-if (a .scan) (a .levels .now) (a .samples .now) (a .first) n (l .levels) (l .index + t) (l .i + t) (leap p .going) (leap p .less)
+          (sym (c .before .before .passable .ensures) ∙ not-false _ (c .before .if1 .left)),
+    )
+
+add-index-2 : tie.Need-add-index-2 Inv-loop μ-loop
+add-index-2 c =
+    let p = c .before .before .before .before .before .before .before .before .before in
+    let l = p .before .before .before .before .loop in
+    let a = p .before .before .before .before .before .before .before .before .before .args in
+    let n = p .stretch .result in
+    let t = n .count - l .near .count in
+    omega (
+      arith,
+      below (a .scan) (a .levels .now) (a .samples .now) (a .first) n (l .levels) (l .index + t) (l .i + t) (leap p .going) (leap p .less)
+          (sym (c .before .before .before .before .before .passable .ensures) ∙ not-false _ (c .before .before .before .before .if1 .left)),
+    )
+
+add-i-2 : tie.Need-add-i-2 Inv-loop μ-loop
+add-i-2 c = omega (arith, leap (c .before .before .before .before .before .before .before .before .before) .less, c .before .before .before .before .before .before .before .before .before .before .before .before .before .before .before .before .before .before .fits, c .before .before .before .before .before .before .before .before .before .before .before .before .before .before .before .before .before .before .good)
+
+loop-less : tie.Need-loop-less Inv-loop μ-loop
+loop-less c = omega (arith, leap (c .before .before .before .before .before .before .before .before .before) .less)
+
+loop-again : tie.Need-loop-again Inv-loop μ-loop
+loop-again c =
+    let p = c .before .before .before .before .before .before .before .before .before in
+    let l = p .before .before .before .before .loop in
+    let a = p .before .before .before .before .before .before .before .before .before .args in
+    let n = p .stretch .result in
+    let t = n .count - l .near .count in
+    let k = c .before .before .step in
+    let passes = sym (c .before .before .before .before .before .passable .ensures) ∙ not-false _ (c .before .before .before .before .if1 .left) in
+    let small = below (a .scan) (a .levels .now) (a .samples .now) (a .first) n (l .levels) (l .index + t) (l .i + t) (leap p .going) (leap p .less) passes in (
+      omega (arith, l .inv .0, k .kept),
+      goes (a .scan) (a .levels .now) (a .samples .now) (a .first) n (l .levels) (l .index + t) (l .i + t) (leap p .going) (leap p .less)
+          passes _ _ (k .ensures .0) (k .ensures .1),
+      omega (arith, small),
+    )
+
+with-near-requires-2 : tie.Need-with-near-requires-2 Inv-loop μ-loop
+with-near-requires-2 c κs = search needs
+
+same-length-2 : tie.Need-same-length-2 Inv-loop μ-loop
+same-length-2 c = c .before .before .loop .inv .0
+
+returns-2 : tie.Need-returns-2 Inv-loop μ-loop
+returns-2 c =
+    let a = c .before .before .before .before .before .before .before .args in
+    let l = c .before .before .loop in
+    let e = through (a .scan) (a .levels .now) (a .samples .now) (a .first) (l .near) (l .levels) (l .index) (l .i) (l .inv .1) (omega arith) in
+    rw (c .with-near2 .ensures) e
+
+pub walk-spec : {M : Type 1} → statement M
+walk-spec =
+    tie.close
+    (tie.spec
+    Inv-loop
+    μ-loop
+    loop-holds
+    sub-reach
+    reach-requires
+    add-end
+    mul-stretch
+    sub-stretch
+    part-stretch-start
+    part-stretch-end
+    stretch-requires
+    sub-taken
+    add-index
+    add-i
+    mul-x
+    shared-slice-read-x
+    passable-requires
+    with-near-requires
+    same-length
+    returns
+    step-requires
+    add-index-2
+    add-i-2
+    loop-less
+    loop-again
+    with-near-requires-2
+    same-length-2
+    returns-2)
