@@ -16,6 +16,7 @@ mod ring;
 #[allow(dead_code)]
 mod track;
 
+mod histories;
 mod random;
 mod record;
 mod replay;
@@ -31,6 +32,7 @@ compare vectors replay SEED FOLDER    writes index, events, far, near, logs and 
 compare vectors demo SEED FOLDER      writes events, far, near and log of the demo recording
 compare long WHICH MINUTES FOLDER     writes events, far and near of a long recording: working or found
 compare replay EVENTS FAR NEAR        prints the log of a recording
+compare histories SEED CYCLES         tells verdicts from random histories by request m's sentences, beside track.rs
 compare replays SEED COUNT PROGRAM    runs PROGRAM EVENTS FAR NEAR on random recordings and compares what it prints";
 
 fn main() {
@@ -39,6 +41,7 @@ fn main() {
     let done = match words[..] {
         ["vectors", what, seed, folder] => vectors::write(what, seed, folder),
         ["replays", seed, count, program] => replays(seed, count, program),
+        ["histories", seed, cycles] => histories(seed, cycles),
         ["long", which, minutes, folder] => long(which, minutes, folder),
         ["replay", events, far, near] => print_log(events, far, near),
         _ => Err(USAGE.to_string()),
@@ -47,6 +50,14 @@ fn main() {
         eprintln!("{message}");
         std::process::exit(2);
     }
+}
+
+fn histories(seed: &str, cycles: &str) -> Result<(), String> {
+    let seed = seed.parse().map_err(|_| format!("'{seed}' is no seed"))?;
+    let cycles = cycles
+        .parse()
+        .map_err(|_| format!("'{cycles}' is no number of cycles"))?;
+    histories::run(seed, cycles)
 }
 
 fn long(which: &str, minutes: &str, folder: &str) -> Result<(), String> {

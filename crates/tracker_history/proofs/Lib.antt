@@ -1,0 +1,9 @@
+-- The tracker's fields follow the words on its history, so the history alone explains each verdict.
+pub mod Says
+pub mod Accepted
+pub mod Follows
+pub mod Verdicts
+pub mod Sentences
+pub mod Explained
+pub mod Calls
+pub mod Examples
