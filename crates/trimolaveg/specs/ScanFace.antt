@@ -3,6 +3,8 @@ use Prim.Native.Nat.{ℕ}
 use mathlib.Core.Bool.{Bool, true}
 use mathlib.Core.List.{List, []}
 use lib.Ieee.{Float}
+use denote.Ref.{RefT, now}
+use denote.Triple.Both.{Both}
 use Rattle.answers.specs.Pick.{pick}
 use Rattle.words.specs.Words.{fits, oneValue}
 use Rattle.scan.specs.Bins.{fullSlack, inTable}
@@ -11,7 +13,7 @@ use Rattle.scan.specs.Calls.{Restart, made, wasReset, rearmed, discarded, pushe
 use Rattle.scan.specs.declared.Changed.{Changed}
 use Rattle.scan.specs.declared.FlagReport.{FlagReport}
 use Rattle.scan.specs.declared.SamplesReport.{SamplesReport}
-use Rattle.scan_score.specs.Observing.{world}
+use Rattle.scan_score.specs.Observing.{lent, world}
 use Rattle.scan_words.specs.Layout.{scanWords, loaded}
 use Rattle.scan_words.specs.Answers.{frameValues, regionValues, changeNumber, changedWords, takingNumber, tookWords, scoringNumber, scoringTold, scoredWords, samplesNumber, samplesTold, countNumber, countTold, levelNumber, levelTold, levelPattern, regionNumber, regionTold, correlationPattern, flagNumber}
 use Rattle.trimolaveg.specs.Face.{Left, left, settingFirst, judged, unlessRefused}
@@ -36,6 +38,28 @@ pub record History : Type 0 where
 
 abbrev pub history : List Float → List Float → History
 history envelope lagSums = record { envelope = envelope; lagSums = lagSums }
+
+-- ---- lists as a contract has them: what stands in each at the call, and right after it
+
+abbrev pub Lent : Type 0
+Lent = Both (RefT (List Float)) (RefT (List Float))
+
+abbrev pub historyGiven : Lent → Lent → History
+historyGiven envelope lagSums = history (now (envelope .entry)) (now (lagSums .entry))
+
+abbrev pub historyLeft : Lent → Lent → History
+historyLeft envelope lagSums = history (now (envelope .exit)) (now (lagSums .exit))
+
+abbrev pub buffersGiven : Lent → Lent → Lent → Lent → Lent → Lent → Lent → Buffers
+buffersGiven envelope levels window prefix squares scores lagSums =
+    lent (now (envelope .entry)) (now (levels .entry)) (now (window .entry)) (now (prefix .entry)) (now (squares .entry)) (now (scores .entry)) (now (lagSums .entry))
+
+-- envelope and levels are only read
+abbrev pub buffersLeft : Lent → Lent → Lent → Lent → Lent → Lent → Lent → Buffers
+buffersLeft envelope levels window prefix squares scores lagSums =
+    lent (now (envelope .entry)) (now (levels .entry)) (now (window .exit)) (now (prefix .exit)) (now (squares .exit)) (now (scores .exit)) (now (lagSums .exit))
+
+-- ---- a making and a reset
 
 abbrev pub restartLeft : List ℕ → Restart → Left History
 restartLeft ws r = changeLeft ws (r .changed) (history (r .envelope) (r .lagSums))

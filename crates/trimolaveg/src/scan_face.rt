@@ -5,9 +5,8 @@ use scan_words::loading;
 use scan_words::storing;
 ghost use mathlib.Core.Path.{_≡_};
 ghost use Rattle.scan.specs.Bins.{fullSlack, geometryOf, envelopeLen, nearLen, windowLen, prefixLen, lags};
-ghost use Rattle.scan_score.specs.Observing.{lent};
 ghost use Rattle.scan_words.specs.Layout.{scanWords};
-ghost use Rattle.trimolaveg.specs.ScanFace.{lengthFor, judgedScan, history, newCalled, resetCalled, rearmCalled, discardNearCalled, pushFarCalled, pushNearCalled, observeCalled, binSamplesCalled, ceilingSamplesCalled, framesCalled, correlationCalled, regionCalled, beyondCeilingCalled, finishedCalled, exhaustedCalled};
+ghost use Rattle.trimolaveg.specs.ScanFace.{lengthFor, judgedScan, historyGiven, historyLeft, buffersGiven, buffersLeft, newCalled, resetCalled, rearmCalled, discardNearCalled, pushFarCalled, pushNearCalled, observeCalled, binSamplesCalled, ceilingSamplesCalled, framesCalled, correlationCalled, regionCalled, beyondCeilingCalled, finishedCalled, exhaustedCalled};
 
 fn judge(state: &[u64], values_fit: bool) -> u32
     ensures { λ r. ⌜ r ≡ judgedScan (now (state .entry)) «values_fit» ⌝ }
@@ -102,9 +101,9 @@ pub extern "C" fn tmv_scan_new(
     rate: u32,
     ceiling: u32,
 ) -> u32
-    ensures number { λ r. ⌜ r ≡ newCalled (now (state .entry)) (history (now (envelope .entry)) (now («lag_sums» .entry))) rate ceiling .number ⌝ }
-    ensures words { λ r. ⌜ now (state .exit) ≡ newCalled (now (state .entry)) (history (now (envelope .entry)) (now («lag_sums» .entry))) rate ceiling .words ⌝ }
-    ensures history { λ r. ⌜ history (now (envelope .exit)) (now («lag_sums» .exit)) ≡ newCalled (now (state .entry)) (history (now (envelope .entry)) (now («lag_sums» .entry))) rate ceiling .buffers ⌝ }
+    ensures number { λ r. ⌜ r ≡ newCalled (now (state .entry)) (historyGiven envelope «lag_sums») rate ceiling .number ⌝ }
+    ensures words { λ r. ⌜ now (state .exit) ≡ newCalled (now (state .entry)) (historyGiven envelope «lag_sums») rate ceiling .words ⌝ }
+    ensures history { λ r. ⌜ historyLeft envelope «lag_sums» ≡ newCalled (now (state .entry)) (historyGiven envelope «lag_sums») rate ceiling .buffers ⌝ }
 {
     let refusal = judging::setting_first(
         scan_calls::rules::in_table(rate, ceiling),
@@ -124,9 +123,9 @@ pub extern "C" fn tmv_scan_reset(
     envelope: &mut [f32],
     lag_sums: &mut [f64],
 ) -> u32
-    ensures number { λ r. ⌜ r ≡ resetCalled (now (state .entry)) (history (now (envelope .entry)) (now («lag_sums» .entry))) .number ⌝ }
-    ensures words { λ r. ⌜ now (state .exit) ≡ resetCalled (now (state .entry)) (history (now (envelope .entry)) (now («lag_sums» .entry))) .words ⌝ }
-    ensures history { λ r. ⌜ history (now (envelope .exit)) (now («lag_sums» .exit)) ≡ resetCalled (now (state .entry)) (history (now (envelope .entry)) (now («lag_sums» .entry))) .buffers ⌝ }
+    ensures number { λ r. ⌜ r ≡ resetCalled (now (state .entry)) (historyGiven envelope «lag_sums») .number ⌝ }
+    ensures words { λ r. ⌜ now (state .exit) ≡ resetCalled (now (state .entry)) (historyGiven envelope «lag_sums») .words ⌝ }
+    ensures history { λ r. ⌜ historyLeft envelope «lag_sums» ≡ resetCalled (now (state .entry)) (historyGiven envelope «lag_sums») .buffers ⌝ }
 {
     let refusal = judge(state, true);
     if refusal != 0 {
@@ -216,10 +215,10 @@ pub extern "C" fn tmv_scan_observe(
     lag_sums: &mut [f64],
     values: &mut [u64],
 ) -> u32
-    ensures number { λ r. ⌜ r ≡ observeCalled (now (state .entry)) (lent (now (envelope .entry)) (now (levels .entry)) (now (window .entry)) (now (prefix .entry)) (now (squares .entry)) (now (scores .entry)) (now («lag_sums» .entry))) (now (values .entry)) .number ⌝ }
-    ensures words { λ r. ⌜ now (state .exit) ≡ observeCalled (now (state .entry)) (lent (now (envelope .entry)) (now (levels .entry)) (now (window .entry)) (now (prefix .entry)) (now (squares .entry)) (now (scores .entry)) (now («lag_sums» .entry))) (now (values .entry)) .words ⌝ }
-    ensures buffers { λ r. ⌜ lent (now (envelope .entry)) (now (levels .entry)) (now (window .exit)) (now (prefix .exit)) (now (squares .exit)) (now (scores .exit)) (now («lag_sums» .exit)) ≡ observeCalled (now (state .entry)) (lent (now (envelope .entry)) (now (levels .entry)) (now (window .entry)) (now (prefix .entry)) (now (squares .entry)) (now (scores .entry)) (now («lag_sums» .entry))) (now (values .entry)) .buffers ⌝ }
-    ensures values { λ r. ⌜ now (values .exit) ≡ observeCalled (now (state .entry)) (lent (now (envelope .entry)) (now (levels .entry)) (now (window .entry)) (now (prefix .entry)) (now (squares .entry)) (now (scores .entry)) (now («lag_sums» .entry))) (now (values .entry)) .values ⌝ }
+    ensures number { λ r. ⌜ r ≡ observeCalled (now (state .entry)) (buffersGiven envelope levels window prefix squares scores «lag_sums») (now (values .entry)) .number ⌝ }
+    ensures words { λ r. ⌜ now (state .exit) ≡ observeCalled (now (state .entry)) (buffersGiven envelope levels window prefix squares scores «lag_sums») (now (values .entry)) .words ⌝ }
+    ensures buffers { λ r. ⌜ buffersLeft envelope levels window prefix squares scores «lag_sums» ≡ observeCalled (now (state .entry)) (buffersGiven envelope levels window prefix squares scores «lag_sums») (now (values .entry)) .buffers ⌝ }
+    ensures values { λ r. ⌜ now (values .exit) ≡ observeCalled (now (state .entry)) (buffersGiven envelope levels window prefix squares scores «lag_sums») (now (values .entry)) .values ⌝ }
 {
     let refusal = judge(state, values.len() == answering::FRAME_VALUES);
     if refusal != 0 {
