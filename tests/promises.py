@@ -13,14 +13,13 @@ import sys
 ROOT = pathlib.Path(__file__).resolve().parent.parent
 CRATES = ROOT / "crates"
 # The crates whose calls a host makes.
-CALLED = ["floats", "ring", "tracker", "scan_calls", "scan_push", "scan_runs", "scan_score", "fine", "fine_gate", "fine_peak", "log_lines", "recording", "replay", "trimolaveg"]
+CALLED = ["floats", "ring", "tracker", "scan_calls", "scan_push", "scan_runs", "scan_score", "fine", "fine_gate", "fine_peak", "log_lines", "recording", "replay", "floats_face", "ring_face", "tracker_face", "fine_face", "scan_face"]
 # Public only for the crates above them; a host calls none of these. Each is pinned by an equation in its contract all the same.
 INNER = {
     "scan_calls": ["clearing.rt", "parts.rt", "restart.rt", "rules.rt"],
     "scan_push": ["far.rt", "level.rt", "near.rt"],
     "scan_score": ["refusal.rt", "window.rt"],
     "fine": ["of", "with_frames"],
-    "trimolaveg": ["judging.rt"],
     "replay": ["events.rt", "starting.rt", "words.rt"],
 }
 
@@ -94,21 +93,19 @@ def public_calls(crate):
                 yield match.group(1), path.relative_to(ROOT)
 
 
-def plain(call, path):
+def plain(crate, call):
     """A call's name in its theorems: for the C face without the prefix."""
-    part = path.stem.removesuffix("_face")
-    return call.removeprefix("tmv_").removeprefix(part + "_").replace("_", "-")
+    return call.removeprefix("tmv_").removeprefix(crate.removesuffix("_face") + "_").replace("_", "-")
 
 
-def theorems(crate, call, path):
-    """The theorems about a call: in Determined, or, for the C face, in the module of the call's part. A theorem is about the call with the longest name that begins it."""
-    part = path.stem.removesuffix("_face")
-    file = CRATES / crate / "proofs" / ("Determined.antt" if part == path.stem else part.capitalize() + "Determined.antt")
+def theorems(crate, call):
+    """The theorems about a call, in Determined. A theorem is about the call with the longest name that begins it."""
+    file = CRATES / crate / "proofs" / "Determined.antt"
     known = re.findall(r"^pub ([\w-]+-once) :", file.read_text(), re.M) if file.exists() else []
-    names = [plain(other, there) for other, there in public_calls(crate) if there == path]
+    names = [plain(crate, other) for other, _ in public_calls(crate)]
     longest = {t: max((name for name in names if t.startswith(name + "-")), key=len, default="") for t in known}
-    mine = [t for t in known if longest[t] == plain(call, path)]
-    return mine if plain(call, path) + "-once" in mine else []
+    mine = [t for t in known if longest[t] == plain(crate, call)]
+    return mine if plain(crate, call) + "-once" in mine else []
 
 
 def determined(crates):
@@ -130,7 +127,7 @@ def determined(crates):
         if crate not in crates:
             continue
         for call, path in public_calls(crate):
-            mine = theorems(crate, call, path)
+            mine = theorems(crate, call)
             if mine:
                 lines.append(f"| {crate}: `{call}` ({path.name}) | {', '.join('`' + t + '`' for t in mine)} |")
             else:

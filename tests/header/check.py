@@ -5,9 +5,9 @@ import re
 import sys
 
 HEADER = pathlib.Path("include/trimolaveg.h")
-FACE = "crates/trimolaveg/src"
+FACE = [f"crates/{part}_face/src" for part in ("floats", "ring", "scan", "tracker", "fine")]
 # Where an answer's case gets its number.
-NUMBERING = [FACE, "crates/ring_words/src", "crates/scan_words/src", "crates/tracker_words/src", "crates/fine_words/src"]
+NUMBERING = [*FACE, "crates/ring_words/src", "crates/scan_words/src", "crates/tracker_words/src", "crates/fine_words/src"]
 REFUSALS = "crates/answers/src"
 
 C_TYPES = {"u32": "uint32_t", "u64": "uint64_t", "f32": "float", "f64": "double"}
@@ -15,6 +15,10 @@ C_TYPES = {"u32": "uint32_t", "u64": "uint64_t", "f32": "float", "f64": "double"
 
 def sources(folder):
     return "\n".join(path.read_text() for path in sorted(pathlib.Path(folder).glob("*.rt")))
+
+
+def all_sources(folders):
+    return "\n".join(map(sources, folders))
 
 
 def without_comments(text, pattern):
@@ -32,7 +36,7 @@ def c_parameters(parameter):
 
 
 def face_functions():
-    text = without_comments(sources(FACE), r"//[^\n]*")
+    text = without_comments(all_sources(FACE), r"//[^\n]*")
     found = {}
     declared = r'#\[no_mangle\]\s*pub extern "C" fn (\w+)\((.*?)\)\s*->\s*(\w+)'
     for name, parameters, answer in re.findall(declared, text, flags=re.S):
@@ -77,7 +81,7 @@ def main():
     ]
 
     named = constants(header)
-    face = sources(FACE)
+    face = all_sources(FACE)
     for name, (number, _) in named.items():
         if not name.endswith("_WORDS"):
             continue

@@ -1,0 +1,2 @@
+-- What every call of the C face shares.
+pub mod Face

@@ -1,0 +1,3 @@
+-- What the contracts come to.
+pub mod Patterns
+pub mod Determined

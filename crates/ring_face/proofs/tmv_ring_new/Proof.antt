@@ -1,0 +1,33 @@
+-- `ring_face::tmv_ring_new` meets its contract.
+use mathlib.Core.Path.{sym, _∙_}
+use Rattle.ring_face.specs.Calls.{newCalled}
+use Rattle.face.proofs.Order.{state-fits, refused, let-pass, number-is, words-are}
+use borrow.Author.Needs.{needs}
+use Rattle.ring_face.proofs.tmv_ring_new.Statement.{statement}
+use Rattle.ring_face.proofs.tmv_ring_new.Tie as tie
+
+judge-requires : tie.Need-judge-requires
+judge-requires c κs = search needs
+
+same-length : tie.Need-same-length
+same-length c = search needs
+
+returns : tie.Need-returns
+unfolding newCalled
+returns c = let w = refused _ _ _ _ _ _ (c .before .judge .ensures) (c .if1 .taken) in (number-is w, words-are w)
+
+new-requires : tie.Need-new-requires
+new-requires c κs = search needs
+
+settle-change-requires : tie.Need-settle-change-requires
+settle-change-requires c κs = state-fits _ (c .before .before .before .before .before .before .before .args .state .now) _ _ (sym (c .before .before .before .judge .ensures) ∙ c .before .before .if1 .left)
+
+same-length-2 : tie.Need-same-length-2
+same-length-2 c = search needs
+
+returns-2 : tie.Need-returns-2
+unfolding newCalled
+returns-2 c = let p = let-pass _ _ _ _ _ _ (c .before .before .before .before .before .before .judge .ensures) (c .before .before .before .before .before .if1 .left) in (cc (c .before .before .settle-change .ensures .0, c .before .before .before .new .ensures) ∙ number-is p, cc (c .before .before .settle-change .ensures .1, c .before .before .before .new .ensures) ∙ words-are p)
+
+pub tmv-ring-new-spec : {M : Type 1} → statement M
+tmv-ring-new-spec = tie.close (tie.spec judge-requires same-length returns new-requires settle-change-requires same-length-2 returns-2)

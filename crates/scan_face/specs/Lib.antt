@@ -1,0 +1,2 @@
+-- What the calls answer and leave: a definition for each.
+pub mod Calls
