@@ -58,7 +58,7 @@ pub fn log(out: &mut [u8], at: usize, line: Line) -> usize
 
 // ---- a session with one part anew
 
-fn with_scan(session: Session, scan: Scan) -> Session
+pub fn with_scan(session: Session, scan: Scan) -> Session
     ensures { λ r. ⌜ r ≡ withScan session scan ⌝ }
 {
     let tracker = session.tracker;
@@ -73,7 +73,7 @@ fn with_scan(session: Session, scan: Scan) -> Session
 }
 
 // The scan after one frame more.
-fn with_frame(session: Session, scan: Scan) -> Session
+pub fn with_frame(session: Session, scan: Scan) -> Session
     ensures { λ r. ⌜ r ≡ withFrame session scan ⌝ }
 {
     let tracker = session.tracker;
@@ -88,7 +88,7 @@ fn with_frame(session: Session, scan: Scan) -> Session
 }
 
 // After an event: what it used of the samples is anew too.
-fn next_with_scan(session: Session, used: Used, scan: Scan) -> Session
+pub fn next_with_scan(session: Session, used: Used, scan: Scan) -> Session
     ensures { λ r. ⌜ r ≡ withScan (withUsed session used) scan ⌝ }
 {
     let tracker = session.tracker;
@@ -102,7 +102,7 @@ fn next_with_scan(session: Session, used: Used, scan: Scan) -> Session
     }
 }
 
-fn next_with_tracker(session: Session, used: Used, tracker: Tracker, cycles: u64) -> Session
+pub fn next_with_tracker(session: Session, used: Used, tracker: Tracker, cycles: u64) -> Session
     ensures { λ r. ⌜ r ≡ withTracker (withUsed session used) tracker cycles ⌝ }
 {
     let scan = session.scan;
@@ -327,10 +327,10 @@ fn sample(
 }
 
 // A run over the samples that pass: what it left, how many they are, and the index after them.
-struct Passed {
-    session: Session,
-    count: usize,
-    index: u64,
+pub struct Passed {
+    pub session: Session,
+    pub count: usize,
+    pub index: u64,
 }
 
 fn later(index: u64, n: usize) -> u64
@@ -342,7 +342,7 @@ fn later(index: u64, n: usize) -> u64
     0xffff_ffff_ffff_ffff
 }
 
-fn pass(session: Session, levels: &mut [f32], samples: &[f32], first: u64) -> Passed
+pub fn pass(session: Session, levels: &mut [f32], samples: &[f32], first: u64) -> Passed
     ensures session { λ r. ⌜ r .session ≡ withScan session (ran (session .scan) (now (levels .entry)) (now (samples .entry)) first .scan) ⌝ }
     ensures count { λ r. ⌜ r .count ≡ ran (session .scan) (now (levels .entry)) (now (samples .entry)) first .passed ⌝ }
     ensures index { λ r. ⌜ r .index ≡ min (first + ran (session .scan) (now (levels .entry)) (now (samples .entry)) first .passed) (2 ^ 64 - 1) ⌝ }
