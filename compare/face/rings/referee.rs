@@ -1,4 +1,4 @@
-//! Which refusal is due: document 01's table and order, and what the C header says of lists and words. Nothing of the core's source.
+//! Which refusal is due: the scope paper's table and order, and what the C header says of lists and words. Nothing of the core's source.
 
 use super::shape::Call;
 use super::world::{World, WORDS};

@@ -71,7 +71,7 @@ impl Maker {
         self.near_bits(first, &patterns(signal, place, count));
     }
 
-    /// Native samples of a bin and bins of a frame and of the span, as document 01 has them.
+    /// Native samples of a bin and bins of a frame and of the span, as the scope paper has them.
     pub fn geometry(&self) -> (u64, u64, u64) {
         let block = (self.rate as u64 + 500) / 1000;
         let bin_rate = self.rate as u64 / block;

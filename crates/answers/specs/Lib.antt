@@ -2,3 +2,6 @@
 pub mod Pick
 pub mod Refusals
 pub mod Numbers
+pub mod Answers
+pub mod Told
+pub mod Once

@@ -1,4 +1,4 @@
--- Document 01, "Numbers the card lives with", and the helpers on numbers that the Rust takes from its library.
+-- SPECIFICATION 2, the numbers the card lives with, and the helpers on numbers that the Rust takes from its library.
 use Prim.Native.Nat.{ℕ, _+_, _-_, _^_, min}
 use mathlib.Core.Bool.{Bool}
 use lib.Dec.{leb}

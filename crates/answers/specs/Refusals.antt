@@ -1,4 +1,4 @@
--- Document 01, "Refusal numbers": a name for each row of the table, and how a list of refusals is written in the paper's order.
+-- SPECIFICATION 3, refusal numbers: a name for each row of the table, and how a list of refusals is written in its order.
 use Prim.Native.Nat.{ℕ}
 use mathlib.Core.Bool.{Bool}
 use lib.Dec.{eqb}
@@ -35,6 +35,14 @@ frameWaits = 6
 -- a frame is to be scored and none is full
 abbrev pub noFullFrame : ℕ
 noFullFrame = 7
+
+-- a line is none of a log, or its number does not rise. 8, 10 and 12 are numbers of tools: no call of the core answers them, and they stand in no log
+abbrev pub notALogLine : ℕ
+notALogLine = 8
+
+-- a tracker's largest contradiction run is below its current one
+abbrev pub inconsistentRecord : ℕ
+inconsistentRecord = 9
 
 -- one line of a list of refusals: the number where the rule is broken, else what the rest says
 abbrev pub require : Bool → ℕ → ℕ → ℕ

@@ -1,6 +1,7 @@
-// What every crate shares: the refusal numbers and limits of document 01, and the helpers on numbers that the Rust takes from its library.
+// What every crate shares: refusal numbers, limits, the answers that say nothing of a state, and helpers on numbers that the Rust takes from its library.
 ghost use mathlib.Core.Path.{_≡_};
-ghost use Prim.Native.Nat.{_-_};
+ghost use Prim.Native.Nat.{_-_, min, max};
+ghost use Rattle.answers.specs.Answers.{changing, counted, flagged};
 ghost use Rattle.answers.specs.Numbers;
 ghost use Rattle.answers.specs.Numbers.{apart, nextCount, nextLongCount, allowedRate, allowedCeiling, allowedSpan};
 
@@ -25,8 +26,63 @@ pub const FRAME_WAITS: u8 = 6;
 // A frame is to be scored and none is full.
 pub const NO_FULL_FRAME: u8 = 7;
 
+// A tracker's largest contradiction run is below its current one.
+pub const INCONSISTENT_RECORD: u8 = 9;
+
 // 2^62: index, delay, alignment and origin are below it, and at most this many samples are accepted.
 pub const LIMIT: u64 = 0x4000_0000_0000_0000;
+
+// Of a call that changes a state, and tells nothing but that it did.
+pub enum Change {
+    Refused(u8),
+    Done,
+}
+
+// Of a report that is a count.
+pub enum Count {
+    Refused(u8),
+    Is(u64),
+}
+
+// Of a report that is yes or no.
+pub enum Flag {
+    Refused(u8),
+    Is(bool),
+}
+
+// In these three a refusal of 0 is none.
+impl Change {
+    pub fn of(refusal: u8) -> Change
+        ensures { λ r. ⌜ r ≡ changing refusal ⌝ }
+    {
+        if refusal != 0 {
+            return Change::Refused(refusal);
+        }
+        Change::Done
+    }
+}
+
+impl Count {
+    pub fn of(refusal: u8, n: u64) -> Count
+        ensures { λ r. ⌜ r ≡ counted refusal n ⌝ }
+    {
+        if refusal != 0 {
+            return Count::Refused(refusal);
+        }
+        Count::Is(n)
+    }
+}
+
+impl Flag {
+    pub fn of(refusal: u8, is: bool) -> Flag
+        ensures { λ r. ⌜ r ≡ flagged refusal is ⌝ }
+    {
+        if refusal != 0 {
+            return Flag::Refused(refusal);
+        }
+        Flag::Is(is)
+    }
+}
 
 // |a - b|
 pub fn abs_diff(a: u64, b: u64) -> u64
@@ -40,6 +96,18 @@ pub fn saturating_sub(a: u64, b: u64) -> u64
     ensures { λ r. ⌜ r ≡ a - b ⌝ }
 {
     if a < b { 0 } else { a - b }
+}
+
+pub fn smaller(a: u64, b: u64) -> u64
+    ensures { λ r. ⌜ r ≡ min a b ⌝ }
+{
+    if a < b { a } else { b }
+}
+
+pub fn larger(a: u64, b: u64) -> u64
+    ensures { λ r. ⌜ r ≡ max a b ⌝ }
+{
+    if a < b { b } else { a }
 }
 
 // One more, or the largest count.
@@ -65,7 +133,7 @@ pub fn within(lo: u32, hi: u32, n: u32) -> bool
     n <= hi
 }
 
-// Document 01, "Numbers the card lives with".
+// The allowed settings: SPECIFICATION 2.
 pub fn allowed_rate(rate: u32) -> bool
     ensures { λ r. ⌜ r ≡ allowedRate rate ⌝ }
 {

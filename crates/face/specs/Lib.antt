@@ -1,2 +1,2 @@
--- What every call of the C face shares.
+-- What all calls of the C face have in common.
 pub mod Face

@@ -4,7 +4,8 @@ use contract.Lifetimes.{Lfts}
 use denote.Ref.{now}
 use denote.Triple.Clauses.{AtExit}
 use borrow.Fn.Kinds.{Dens, resT, endedOf}
-use Rattle.answers.proofs.Once.{Determined, once}
+use Rattle.answers.specs.Once.{Determined}
+use Rattle.answers.proofs.Once.{once}
 use Rattle.fine_gate.specs.Gate.{NearPush, Gating}
 use Rattle.fine_gate.proofs.push_near.Kinds as push-near-kinds
 use Rattle.fine_gate.proofs.push_near.Reads as push-near-reads

@@ -2,4 +2,5 @@
 pub mod Laws
 pub mod Sound
 pub mod Numbers
+pub mod Faithful
 pub mod Determined

@@ -1,4 +1,4 @@
--- Document 01, "Fine gate and peak", the first paragraph: a near sample, the gate on a full near frame, and the rescan of a retained one.
+-- SPECIFICATION 9: a near sample, the gate on a full near frame, and the rescan of a retained one.
 use Prim.Native.Nat.{ℕ, _+_, _/_}
 use mathlib.Core.List.{List}
 use mathlib.Core.Bool.{Bool, true, false, not}
@@ -25,7 +25,7 @@ use Rattle.fine_gate.specs.declared.RescanAnswer.{RescanAnswer}
 use Rattle.fine_gate.specs.declared.RescanAnswer.the-variants as rescan
 use Rattle.fine_gate.specs.declared.Rescanned.{Rescanned}
 
--- ---- the lent buffers: near and retained frames are two f32 buffers of frame; the far window is of frame + span
+-- ---- the lent buffers. Near and retained frame are two f32 buffers as long as the frame; the far window is frame + span long.
 
 unfoldable pub isFrame : ℕ → ℕ → Bool
 isFrame span len = eqb len (frameOf span)
@@ -36,7 +36,7 @@ rescanLengths span retainedLen farLen = both (isFrame span retainedLen) (eqb far
 unfoldable pub gateLengths : ℕ → ℕ → ℕ → ℕ → Bool
 gateLengths span nearLen retainedLen farLen = both (isFrame span nearLen) (rescanLengths span retainedLen farLen)
 
--- ---- one near sample. Lent: the near frame.
+-- ---- one near sample. The near frame is lent.
 
 pub record NearPush : Type 0 where
   pub took : Took
@@ -55,7 +55,7 @@ nearRefusal s nearLen x =
 abbrev pub longer : Frames → Frames
 longer f = record { len = f .len + 1; retained = f .retained; taken = f .taken; skipped = f .skipped }
 
--- the state with the sample counted, and whether it completed the frame
+-- Counts the sample in the state, and tells whether it completed the frame.
 unfoldable pub tookOne : Fine → Took
 tookOne s = let t = withFrames s (longer (s .frames)) in record { fine = t; answer = pick (full t) taking.Full taking.Taken }
 
@@ -66,36 +66,36 @@ pushedNear s near x =
     (nearPush (record { fine = s; answer = taking.Refused n }) near)
     (nearPush (tookOne s) (set near (s .frames .len) x))
 
--- ---- the gate: a near frame and its far window, `head` and `tail` samples of which are missing
+-- ---- the gate judges a near frame and its far window, which lacks `head` and `tail` samples
 
--- at most this part of the frame may be missing at the window's end (TAIL_DEFICIT_LIMIT_DEN): a host that runs one block ahead always misses a little
+-- At most this part of the frame may be missing at the window's end (TAIL_DEFICIT_LIMIT_DEN): a host that runs one block ahead always misses a little.
 abbrev pub tailDeficitPart : ℕ
 tailDeficitPart = 4
 
--- a window with any missing head, or missing tail above frame / 4, is skipped
+-- A window is skipped if any of its head is missing, or more than frame / 4 of its tail.
 unfoldable pub skips : Fine → ℕ → ℕ → Bool
 skips s head tail = either (ltb 0 head) (ltb (s .lengths .frame / tailDeficitPart) tail)
 
--- the f64 sum of squares in order
+-- Sums the squares in f64, in order.
 unfoldable pub energyOf : List Float → Float
 energyOf xs = upto (λ i. square (at xs i)) (length xs)
 
--- 1e-8 (FRAME_ENERGY_FLOOR): silence carries no delay, and would only dilute the frames that do
+-- 1e-8 (FRAME_ENERGY_FLOOR): silence carries no delay, and would only dilute the frames that do.
 abbrev pub energyFloor : Float
 energyFloor = ofBits binary64 0x3e45798ee2308c3a
 
--- energy below 1e-8 on either side is silent
+-- A frame is silent if the energy of either side is below 1e-8.
 unfoldable pub silent : List Float → List Float → Bool
 silent near far = either (lt (energyOf near) energyFloor) (lt (energyOf far) energyFloor)
 
 unfoldable pub passage : Fine → List Float → List Float → ℕ → ℕ → Passage
 passage s near far head tail = pick (skips s head tail) Skipped (pick (silent near far) Silent Taken)
 
--- a gate that skips reads nothing; other gates read both sides whole
+-- A gate that skips reads nothing; other gates read both sides whole.
 unfoldable pub readable : Fine → List Float → List Float → ℕ → ℕ → Bool
 readable s near far head tail = either (skips s head tail) (both (allFinite near) (allFinite far))
 
--- ---- the gate on the near frame. Lent: the near frame, the retained frame and the far window.
+-- ---- the gate on the near frame. Near frame, retained frame and far window are lent.
 
 pub record Gating : Type 0 where
   pub gated : Gated
@@ -111,19 +111,19 @@ gateRefusal s near retainedLen far head tail =
     (require (readable s near far head tail) notFinite
     none))
 
--- the near frame is consumed in every case: skipped and counted; silent; or taken and counted. Skipped and silent forget the retained frame.
+-- The near frame is consumed in every case. Skipped and taken frames are counted. A skipped or silent frame makes the state forget the retained frame.
 abbrev pub consumed : Frames → Passage → Frames
 consumed f Skipped = record { len = 0; retained = false; taken = f .taken; skipped = nextCount (f .skipped) }
 consumed f Silent = record { len = 0; retained = false; taken = f .taken; skipped = f .skipped }
 consumed f Taken = record { len = 0; retained = true; taken = nextCount (f .taken); skipped = f .skipped }
 
--- the first taken frame gives no candidate; from the second on the host asks the peak rule
+-- The first taken frame gives no candidate. From the second on, the host asks the peak rule.
 abbrev pub gateAnswer : Frames → Passage → GateAnswer
 gateAnswer f Skipped = gate.Skipped
 gateAnswer f Silent = gate.Silent
 gateAnswer f Taken = pick (eqb (f .taken) 0) gate.First gate.Later
 
--- a taken frame is retained
+-- A taken frame is retained.
 abbrev pub retainedBy : Passage → List Float → List Float → List Float
 retainedBy Skipped near retained = retained
 retainedBy Silent near retained = retained
@@ -140,7 +140,7 @@ gated s near retained far head tail =
     (gating (record { fine = s; answer = gate.Refused n }) retained)
     (gating (passed s p) (retainedBy p near retained))
 
--- ---- a rescan: the same gate on the retained frame. Lent: the retained frame and the far window. It counts no skip and forgets nothing.
+-- ---- a rescan applies the same gate to the retained frame. Retained frame and far window are lent. It counts no skip and forgets nothing.
 
 unfoldable pub rescanRefusal : Fine → List Float → List Float → ℕ → ℕ → ℕ
 rescanRefusal s retained far head tail =
@@ -156,31 +156,10 @@ rescanAnswer Taken = rescan.Taken
 abbrev pub rescannedBy : Fine → RescanAnswer → Rescanned
 rescannedBy s a = record { fine = s; answer = a }
 
--- "nothing retained" first if so
+-- Answers "nothing retained" first if that is so.
 unfoldable pub rescanned : Fine → List Float → List Float → ℕ → ℕ → Rescanned
 rescanned s retained far head tail =
     let n = rescanRefusal s retained far head tail in
     ifRefused n
     (rescannedBy s (rescan.Refused n))
     (pick (s .frames .retained) (rescannedBy s (rescanAnswer (passage s retained far head tail))) (rescannedBy s rescan.NothingRetained))
-
--- ---- the refusal number of an answer, and none of one that is no refusal
-
-abbrev pub takingNumber : Taking → ℕ
-takingNumber (taking.Refused n) = n
-takingNumber taking.Taken = none
-takingNumber taking.Full = none
-
-abbrev pub gateNumber : GateAnswer → ℕ
-gateNumber (gate.Refused n) = n
-gateNumber gate.Skipped = none
-gateNumber gate.Silent = none
-gateNumber gate.First = none
-gateNumber gate.Later = none
-
-abbrev pub rescanNumber : RescanAnswer → ℕ
-rescanNumber (rescan.Refused n) = n
-rescanNumber rescan.NothingRetained = none
-rescanNumber rescan.Skipped = none
-rescanNumber rescan.Silent = none
-rescanNumber rescan.Taken = none

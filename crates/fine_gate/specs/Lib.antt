@@ -1,2 +1,3 @@
--- The fine gate of document 01, as definitions on values.
+-- Defines the fine gate of SPECIFICATION 9 on values, and what its answers tell.
 pub mod Gate
+pub mod Told

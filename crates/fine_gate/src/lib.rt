@@ -1,5 +1,5 @@
-// The fine stage's frames: a near sample, the gate on a full near frame, and the gate again on the frame that was retained.
-// The state goes in by value and comes back; frames and far window are lent. No public call has a `requires`: it refuses by number, and then
+// The fine stage's frames: takes near samples, gates a full near frame, and gates the retained frame again.
+// The state goes in by value and comes back by value; frames and far window are lent. No public call has a `requires`: a bad call is refused by number,
 // hands back the state that it was given and writes no buffer. Each contract is one equation with a definition of specs/Gate.antt.
 ghost use mathlib.Core.Path.{_≡_};
 ghost use Prim.Native.Nat.{_<_};
@@ -11,7 +11,7 @@ use fine::Fine;
 use fine::Frames;
 use fine::Lengths;
 
-// Less energy than this on either side is silence.
+// A frame is silent if either side has less energy than this.
 const FRAME_ENERGY_FLOOR: f64 = 1e-8;
 
 // At most this part of the frame may be missing at the far window's end.
@@ -24,16 +24,16 @@ pub enum Passage {
     Taken,
 }
 
-// ---- answers. A refusal carries its number of document 01.
+// ---- answers. A refusal carries its number (SPECIFICATION 3).
 
-// Of a near sample: taken, or taken as the frame's last.
+// Answers a near sample: it was taken, or taken as the frame's last.
 pub enum Taking {
     Refused(u8),
     Taken,
     Full,
 }
 
-// Of the gate on a near frame. From the second taken frame on the host asks for the peak.
+// Answers the gate on a near frame. From the second taken frame on, the host asks for the peak.
 pub enum GateAnswer {
     Refused(u8),
     Skipped,
@@ -42,7 +42,7 @@ pub enum GateAnswer {
     Later,
 }
 
-// Of the gate on the retained frame.
+// Answers the gate on the retained frame.
 pub enum RescanAnswer {
     Refused(u8),
     NothingRetained,
@@ -77,7 +77,7 @@ fn is_frame(span: u32, due: Lengths, len: usize) -> bool
     len as u64 == due.frame
 }
 
-// Of a retained frame and a far window.
+// Tells whether a retained frame and a far window have their lengths.
 fn fits_rescan(span: u32, due: Lengths, retained_len: usize, far_len: usize) -> bool
     requires { ⌜ due ≡ lengthsOf span ⌝ }
     ensures { λ r. ⌜ r ≡ rescanLengths span «retained_len» «far_len» ⌝ }
@@ -88,7 +88,7 @@ fn fits_rescan(span: u32, due: Lengths, retained_len: usize, far_len: usize) -> 
     far_len as u64 == due.frame + span as u64
 }
 
-// Of a near frame, a retained frame and a far window.
+// Tells whether a near frame, a retained frame and a far window have their lengths.
 fn fits_gate(span: u32, due: Lengths, near_len: usize, retained_len: usize, far_len: usize) -> bool
     requires { ⌜ due ≡ lengthsOf span ⌝ }
     ensures { λ r. ⌜ r ≡ gateLengths span «near_len» «retained_len» «far_len» ⌝ }
@@ -165,7 +165,7 @@ pub fn push_near(fine: Fine, near: &mut [f32], sample: f32) -> Took
 
 // ---- the gate
 
-// A window with any missing head, or too much of its tail, is skipped.
+// Tells whether a frame is skipped: some of its window's head is missing, or too much of its tail.
 fn skips(fine: Fine, missing_head: u64, missing_tail: u64) -> bool
     ensures { λ r. ⌜ r ≡ Gate.skips fine «missing_head» «missing_tail» ⌝ }
 {
@@ -176,7 +176,7 @@ fn skips(fine: Fine, missing_head: u64, missing_tail: u64) -> bool
     missing_tail > lengths.frame / TAIL_DEFICIT_LIMIT_DEN
 }
 
-// The sum of squares, in order.
+// Sums the squares, in order.
 fn energy(xs: &[f32]) -> f64
     ensures { λ r. ⌜ r ≡ energyOf (now (xs .entry)) ⌝ }
 {
@@ -211,7 +211,7 @@ fn judge(fine: Fine, near: &[f32], far: &[f32], missing_head: u64, missing_tail:
     Passage::Taken
 }
 
-// A gate that skips reads nothing.
+// Tells whether what the gate reads is finite. A gate that skips reads nothing.
 fn readable(fine: Fine, near: &[f32], far: &[f32], missing_head: u64, missing_tail: u64) -> bool
     ensures { λ r. ⌜ r ≡ Gate.readable fine (now (near .entry)) (now (far .entry)) «missing_head» «missing_tail» ⌝ }
 {
@@ -251,7 +251,7 @@ fn gate_refusal(
     0
 }
 
-// The near frame is consumed, whatever became of it.
+// Consumes the near frame, whatever became of it.
 fn consume(frames: Frames, passage: Passage) -> Frames
     ensures { λ r. ⌜ r ≡ Gate.consumed frames passage ⌝ }
 {
@@ -312,7 +312,7 @@ fn copy(from: &[f32], to: &mut [f32])
     }
 }
 
-// A taken frame is retained.
+// Retains a taken frame.
 fn retain(passage: Passage, near: &[f32], retained: &mut [f32])
     requires { ⌜ length (now near) ≡ length (now retained) ⌝ }
     ensures { λ _. ⌜ now (retained .exit) ≡ Gate.retainedBy passage (now (near .entry)) (now (retained .entry)) ⌝ }
@@ -386,7 +386,7 @@ fn rescan_answer(passage: Passage) -> RescanAnswer
     }
 }
 
-// Says whether the retained frame counts against another far window. Nothing is counted and nothing forgotten.
+// Says whether the retained frame counts with another far window. Counts nothing and forgets nothing.
 pub fn rescan(
     fine: Fine,
     retained: &[f32],

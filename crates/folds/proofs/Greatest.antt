@@ -128,7 +128,7 @@ past P x xs j b (suc i) g h = b i (omega arith) (omega arith)
 record Among (xs : List Float) (k : ℕ) (p : Peak) : Type 0 where
   index : ℕ
   inside : index < length xs
-  place : p .at ≡ k + index
+  place : p .place ≡ k + index
   value : p .value ≡ at xs index
   above : lt zero64 (p .value) ≡ true
   last : (i : ℕ) → index < i → i < length xs → eq (at xs i) (p .value) ≡ false
@@ -193,7 +193,7 @@ finds-greatest xs =
     ⊎-elim
     (λ (e : p ≡ peak 0 zero64). inl (record { zero = e; unexceeded = subst (λ (q : Peak). (i : ℕ) → i < length xs → lt (q .value) (at xs i) ≡ false) e (s .unexceeded) }))
     (λ (a : Among xs 0 p).
-    let here : p .at ≡ a .index = omega (arith, a .place) in
+    let here : p .place ≡ a .index = omega (arith, a .place) in
     inr (record {
       inside = omega (arith, a .inside);
       value = a .value ∙ ap (at xs) (sym here);

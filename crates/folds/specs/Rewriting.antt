@@ -1,4 +1,4 @@
--- Values rewritten in place, from index 0 up: what a loop over a lent slice has done when it stands at n.
+-- Says what a loop that rewrites a lent slice in place, from index 0 up, has done when it has reached n.
 use Prim.Native.Nat.{ℕ, _≤_}
 use mathlib.Core.Path.{_≡_}
 use mathlib.Core.List.{List}
@@ -6,7 +6,7 @@ use lib.ListN.{length, take}
 use lib.Ieee.{Float}
 use Rattle.folds.specs.Sums.{table, at}
 
--- f j x is what the value x at j is rewritten to. `old` is the list before, xs the list now.
+-- f j x is the new value for the value x at j. `old` is the list before, xs the list now.
 pub record Rewritten (f : ℕ → Float → Float) (old : List Float) (n : ℕ) (xs : List Float) : Type 0 where
   pub size : length xs ≡ length old
   pub done : take n xs ≡ table (λ j. f j (at old j)) n

@@ -7,13 +7,13 @@ ghost use lib.Ieee.Scale.{finite};
 ghost use Rattle.folds.specs.Sums.{zeros, sumOf, prefixSums, prefixSquares, allFinite, at};
 ghost use Rattle.folds.specs.Search.{searchDown};
 
-// The largest value above 0 and where it stands.
+// The largest value above 0 and its index.
 pub struct Peak {
-    pub at: u64,
+    pub place: u64,
     pub value: f64,
 }
 
-// The sum, ascending.
+// Sums the values, ascending.
 pub fn sum(xs: &[f32]) -> f64
     ensures { λ r. ⌜ r ≡ sumOf (now (xs .entry)) ⌝ }
 {
@@ -26,7 +26,7 @@ pub fn sum(xs: &[f32]) -> f64
     total
 }
 
-// The prefix sums, of the values and of their squares.
+// Writes the prefix sums of the values and of their squares.
 pub fn prefixes(xs: &[f32], sums: &mut [f64], squares: &mut [f64])
     requires { ⌜ (length (now sums) ≡ length (now xs) + 1) × (length (now squares) ≡ length (now xs) + 1) ⌝ }
     ensures sums { λ _. ⌜ now (sums .exit) ≡ prefixSums (now (xs .entry)) ⌝ }
@@ -47,28 +47,28 @@ pub fn prefixes(xs: &[f32], sums: &mut [f64], squares: &mut [f64])
     }
 }
 
-// The coarse search: from the last index down, with strict >.
+// Searches as the coarse scan does: from the last index down, with strict >.
 pub fn search_down(xs: &[f64]) -> Peak
     ensures { λ r. ⌜ r ≡ searchDown (now (xs .entry)) ⌝ }
 {
     let mut value = 0.0;
-    let mut at = 0;
+    let mut place = 0;
     let mut n = xs.len();
     while n > 0 {
         let k = n - 1;
         let v = xs[k];
         if v > value {
             value = v;
-            at = k as u64;
+            place = k as u64;
         }
         n = k;
     }
-    Peak { at, value }
+    Peak { place, value }
 }
 
 // ---- tests and clearing
 
-// No NaN and no infinity among them, value by value. The loop has no early way out, so that several values are tested at once.
+// Tells, value by value, whether there is no NaN and no infinity. The loop has no early exit, so that several values are tested at once.
 fn each_finite(xs: &[f32]) -> bool
     ensures { λ r. ⌜ r ≡ allFinite (now (xs .entry)) ⌝ }
 {
@@ -83,7 +83,7 @@ fn each_finite(xs: &[f32]) -> bool
     fine
 }
 
-// Four values at once, one of each quarter: a sum that is finite had finite parts. The sum of finite values may be infinite, so that a no says nothing.
+// Tests four values at once, one of each quarter: a finite sum has finite parts. The sum of finite values may be infinite, so a no proves nothing.
 fn quarters_finite(xs: &[f32], q: usize) -> bool
     requires { ⌜ q + q + q + q ≤ length (now xs) ⌝ }
     ensures { λ r. ⌜ (r ≡ true → (j : ℕ) → j < q + q + q + q → finite (at (now (xs .entry)) j) ≡ true) ⌝ }
@@ -99,7 +99,7 @@ fn quarters_finite(xs: &[f32], q: usize) -> bool
     fine
 }
 
-// No NaN and no infinity among them.
+// Tells whether there is no NaN and no infinity.
 pub fn all_finite(xs: &[f32]) -> bool
     ensures { λ r. ⌜ r ≡ allFinite (now (xs .entry)) ⌝ }
 {
@@ -124,7 +124,7 @@ pub fn all_finite64(xs: &[f64]) -> bool
     fine
 }
 
-// All +0.
+// Sets every value to +0.
 pub fn clear32(xs: &mut [f32])
     ensures { λ _. ⌜ now (xs .exit) ≡ zeros (length (now (xs .entry))) ⌝ }
 {

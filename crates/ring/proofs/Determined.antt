@@ -5,7 +5,8 @@ use contract.Lifetimes.{Lfts}
 use denote.Ref.{now}
 use denote.Triple.Clauses.{AtExit}
 use borrow.Fn.Kinds.{Dens, resT, endedOf}
-use Rattle.answers.proofs.Once.{Determined, once}
+use Rattle.answers.specs.Once.{Determined}
+use Rattle.answers.proofs.Once.{once}
 use Rattle.ring.proofs.Ring.new.Kinds as new-kinds
 use Rattle.ring.proofs.Ring.new.Reads as new-reads
 use Rattle.ring.proofs.Ring.push.Kinds as push-kinds

@@ -11,13 +11,13 @@ use borrow.Author.Tests.{lt-ltb, le-ltb, le-leb, lt-leb, leb-true, leb-false, eq
 use Rattle.answers.specs.Numbers.{limit}
 use Rattle.answers.specs.Pick.{pick, pick-true, pick-false, pick-all}
 use Rattle.answers.specs.Refusals.{none}
+use Rattle.answers.specs.declared.Change.the-variants.{Refused, Done}
+use Rattle.answers.specs.declared.Count.the-variants.{Is}
+use Rattle.answers.specs.Answers.{counted}
 use Rattle.ring.specs.declared.Ring.{Ring}
-use Rattle.ring.specs.declared.Answer.the-variants.{Refused, Done}
 use Rattle.ring.specs.declared.Changed.{Changed}
 use Rattle.ring.specs.declared.Kept.the-variants.{NotKept, At}
-use Rattle.ring.specs.declared.Count.the-variants.{Is}
-use Rattle.ring.specs.Ring.{changed, counted, empty, made, ringRefusal, pushRefusal, stored, pushed, pushedBuf, oldest, isKept, gotten, nextAbs, droppedOf, cleared}
-use Rattle.ring.specs.Told.{countTold, keptTold}
+use Rattle.ring.specs.Ring.{changed, empty, made, ringRefusal, pushRefusal, stored, pushed, pushedBuf, oldest, isKept, gotten, nextAbs, droppedOf, cleared}
 use Rattle.ring.specs.History.{Lent, capacity, begin, push, pushes, taken, accepted, missing, missingBelow, Remembers}
 use Rattle.ring.proofs.Accepted.{ring-accepted, push-accepted}
 use Rattle.ring.proofs.Slots.{Stand, stored-length, stand-all}
@@ -125,11 +125,11 @@ module _ (l : Lent) (all : List ℕ) (w : Whole l all) where
   unfolding Stand
   remembers =
       record {
-        next = ap countTold counts;
-        kept = λ a old young. record { place = a % capacity l; answer = ap keptTold (found a old young); inside = mod-lt a (w .some); holds = w .stand a old young };
-        tooOld = λ a old. ap keptTold (forgot a old);
-        notYet = λ a young. ap keptTold (awaits a young);
-        dropped = ap countTold drops;
+        next = counts;
+        kept = λ a old young. record { place = a % capacity l; answer = found a old young; inside = mod-lt a (w .some); holds = w .stand a old young };
+        tooOld = forgot;
+        notYet = awaits;
+        dropped = drops;
       }
 
 -- after any list of pushes from a making on, the ring remembers the samples of those that were accepted

@@ -1,4 +1,4 @@
--- A history of the ring: any list of pushes, each a list of patterns, from a making on.
+-- A history of the ring is any list of pushes, each a list of patterns, that begins with a making.
 use Prim.Native.Nat.{ℕ, zero, suc, _+_, _≤_, _<_}
 use mathlib.Core.Path.{_≡_}
 use mathlib.Core.List.{List, [], _∷_, _++_}
@@ -7,10 +7,10 @@ use Rattle.answers.specs.Refusals.{ifRefused}
 use Rattle.ring.specs.declared.Ring.{Ring}
 use Rattle.ring.specs.declared.Kept.{Kept}
 use Rattle.ring.specs.declared.Kept.the-variants.{Refused, NotKept, At}
-use Rattle.ring.specs.Told.{keptTold, countTold, at, notKept, counted}
+use Rattle.answers.specs.declared.Count.the-variants.{Is}
 use Rattle.ring.specs.Ring.{made, pushRefusal, pushed, pushedBuf, gotten, nextAbs, droppedOf}
 
--- a ring with the buffer that is lent to its calls
+-- A ring with the buffer that is lent to its calls.
 pub record Lent : Type 0 where
   pub ring : Ring
   pub buf : List ℕ
@@ -18,11 +18,11 @@ pub record Lent : Type 0 where
 abbrev pub capacity : Lent → ℕ
 capacity l = length (l .buf)
 
--- a ring made over a buffer
+-- Makes a ring over a buffer.
 abbrev pub begin : List ℕ → Lent
 begin buf = record { ring = made (length buf) .ring; buf = buf }
 
--- one push, as the contract of `push` has it
+-- Pushes once, as the contract of `push` says.
 abbrev pub push : Lent → List ℕ → Lent
 push l xs = record { ring = pushed (l .ring) (capacity l) (length xs) .ring; buf = pushedBuf (l .ring) (l .buf) xs }
 
@@ -30,23 +30,22 @@ abbrev pub pushes : Lent → List (List ℕ) → Lent
 pushes l [] = l
 pushes l (xs ∷ more) = pushes (push l xs) more
 
--- the samples of one push that are accepted: all of them or none
+-- Gives the samples of one push that are accepted: all of them or none.
 abbrev pub taken : Lent → List ℕ → List ℕ
 taken l xs = ifRefused (pushRefusal (l .ring) (capacity l) (length xs)) [] xs
 
--- the accepted samples of all pushes, one after the other
+-- Gives the accepted samples of all pushes, one after the other.
 abbrev pub accepted : Lent → List (List ℕ) → List ℕ
 accepted l [] = []
 accepted l (xs ∷ more) = taken l xs ++ accepted (push l xs) more
 
--- what `get` answers, by number and values
-abbrev pub get : Lent → ℕ → List ℕ
-get l a = keptTold (gotten (l .ring) (capacity l) a)
+abbrev pub get : Lent → ℕ → Kept
+get l a = gotten (l .ring) (capacity l) a
 
--- `get` of index a finds the pattern x in the buffer
+-- `get` of index a finds the pattern x in the buffer.
 pub record Finds (l : Lent) (a x : ℕ) : Type 0 where
   pub place : ℕ
-  pub answer : get l a ≡ at place
+  pub answer : get l a ≡ At place
   pub inside : place < capacity l
   pub holds : getD (l .buf) place 0 ≡ x
 
@@ -55,15 +54,15 @@ missing (Refused number) = 0
 missing NotKept = 1
 missing (At place) = 0
 
--- how many of the indices below n are not kept
+-- Counts the indices below n that are not kept.
 abbrev pub missingBelow : Lent → ℕ → ℕ
 missingBelow l zero = 0
-missingBelow l (suc n) = missingBelow l n + missing (gotten (l .ring) (capacity l) n)
+missingBelow l (suc n) = missingBelow l n + missing (get l n)
 
--- the ring has `all` as its history: absolute index a is the a-th sample of it
+-- The ring has `all` as its history: absolute index a is the a-th sample of it.
 pub record Remembers (l : Lent) (all : List ℕ) : Type 0 where
-  pub next : countTold (nextAbs (l .ring) (capacity l)) ≡ counted (length all)
+  pub next : nextAbs (l .ring) (capacity l) ≡ Is (length all)
   pub kept : (a : ℕ) → a < length all → length all ≤ a + capacity l → Finds l a (getD all a 0)
-  pub tooOld : (a : ℕ) → a + capacity l < length all → get l a ≡ notKept
-  pub notYet : (a : ℕ) → length all ≤ a → get l a ≡ notKept
-  pub dropped : countTold (droppedOf (l .ring) (capacity l)) ≡ counted (missingBelow l (length all))
+  pub tooOld : (a : ℕ) → a + capacity l < length all → get l a ≡ NotKept
+  pub notYet : (a : ℕ) → length all ≤ a → get l a ≡ NotKept
+  pub dropped : droppedOf (l .ring) (capacity l) ≡ Is (missingBelow l (length all))

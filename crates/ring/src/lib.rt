@@ -1,69 +1,49 @@
-// The far-end reference ring: samples addressed by an absolute index that never wraps, in a buffer that the host lends with each call.
+// The far-end reference ring. Its samples are addressed by an absolute index that never wraps, in a buffer that the host lends with each call.
 // The buffer's length is the capacity. Samples are bit patterns, so that any bits are kept as they are.
-// No call has a `requires`: it refuses by number, and hands back the ring that it was given.
+// No call has a `requires`: a bad call is refused by number and hands back the ring that it was given.
+use answers::Change;
+use answers::Count;
 ghost use mathlib.Core.Path.{_≡_};
 ghost use Prim.Native.Nat.{_<_, _≤_, _+_, _%_};
 ghost use lib.ListN.{length, set};
 ghost use Rattle.answers.specs.Numbers.{limit};
-ghost use Rattle.ring.specs.Ring.{changed, counted, made, ringRefusal, pushRefusal, stored, pushed, pushedBuf, gotten, nextAbs, capacityOf, droppedOf, cleared};
+ghost use Rattle.ring.specs.Ring.{changed, made, ringRefusal, pushRefusal, stored, pushed, pushedBuf, gotten, nextAbs, capacityOf, droppedOf, cleared};
 
 pub struct Ring {
-    // The number of samples ever pushed, and so the absolute index of the next one: `next_abs` of the Rust.
+    // The number of samples ever pushed, which is also the absolute index of the next one: `next_abs` of the Rust.
     pub accepted: u64,
-}
-
-pub enum Answer {
-    Refused(u8),
-    Done,
 }
 
 pub struct Changed {
     pub ring: Ring,
-    pub answer: Answer,
+    pub answer: Change,
 }
 
-// Where in the lent buffer a sample stands.
+// Where in the lent buffer a sample is.
 pub enum Kept {
     Refused(u8),
     NotKept,
     At(usize),
 }
 
-pub enum Count {
-    Refused(u8),
-    Is(u64),
-}
-
-impl Count {
-    // The answer of a call that counts, where 0 is no refusal.
-    fn of(refusal: u8, n: u64) -> Count
-        ensures { λ r. ⌜ r ≡ counted refusal n ⌝ }
-    {
-        if refusal != 0 {
-            return Count::Refused(refusal);
-        }
-        Count::Is(n)
-    }
-}
-
 impl Ring {
-    // The answer of a call that changes the ring to `next`: a refused one hands this ring back.
+    // Answers a call that changes the ring to `next`; if it is refused, hands this ring back.
     fn changed(self, refusal: u8, next: Ring) -> Changed
         ensures { λ r. ⌜ r ≡ changed self refusal next ⌝ }
     {
         if refusal != 0 {
             return Changed {
                 ring: self,
-                answer: Answer::Refused(refusal),
+                answer: Change::Refused(refusal),
             };
         }
         Changed {
             ring: next,
-            answer: Answer::Done,
+            answer: Change::Done,
         }
     }
 
-    // A ring that retains the most recent `buf.len()` samples. It writes nothing: a slot that was not pushed to is never answered.
+    // Makes a ring that retains the most recent `buf.len()` samples. Writes nothing: no query answers a slot that was not pushed to.
     pub fn new(buf: &[u32]) -> Changed
         ensures { λ r. ⌜ r ≡ made (length (now (buf .entry))) ⌝ }
     {
@@ -71,7 +51,7 @@ impl Ring {
         empty.changed(empty.refusal(buf.len()), empty)
     }
 
-    // The number with which every call refuses this ring, 0 for none.
+    // Gives the number with which every call refuses this ring, or 0 for none.
     fn refusal(self, capacity: usize) -> u8
         ensures { λ r. ⌜ r ≡ ringRefusal self capacity ⌝ }
     {
@@ -106,7 +86,7 @@ impl Ring {
         if number != 0 {
             return Changed {
                 ring: self,
-                answer: Answer::Refused(number),
+                answer: Change::Refused(number),
             };
         }
         store_all(buf, self.accepted, samples);
@@ -114,11 +94,11 @@ impl Ring {
             ring: Ring {
                 accepted: self.accepted + samples.len() as u64,
             },
-            answer: Answer::Done,
+            answer: Change::Done,
         }
     }
 
-    // The place in the buffer of the sample at absolute index `at`, unless it was dropped or has not been pushed yet.
+    // Finds the place in the buffer of the sample at absolute index `at`, unless it was dropped or has not been pushed yet.
     pub fn get(self, buf: &[u32], at: u64) -> Kept
         ensures { λ r. ⌜ r ≡ gotten self (length (now (buf .entry))) at ⌝ }
     {
@@ -135,21 +115,21 @@ impl Ring {
         Kept::At(slot(buf.len(), at))
     }
 
-    // The absolute index of the next sample.
+    // Reports the absolute index of the next sample.
     pub fn next_abs(self, buf: &[u32]) -> Count
         ensures { λ r. ⌜ r ≡ nextAbs self (length (now (buf .entry))) ⌝ }
     {
         Count::of(self.refusal(buf.len()), self.accepted)
     }
 
-    // How many samples back from the next one can still be served.
+    // Reports the capacity: how many samples back from the next one the ring keeps.
     pub fn capacity(self, buf: &[u32]) -> Count
         ensures { λ r. ⌜ r ≡ capacityOf self (length (now (buf .entry))) ⌝ }
     {
         Count::of(self.refusal(buf.len()), buf.len() as u64)
     }
 
-    // How many samples were overwritten since the making or the last `clear`.
+    // Reports how many samples were overwritten since the making or the last `clear`.
     pub fn dropped(self, buf: &[u32]) -> Count
         ensures { λ r. ⌜ r ≡ droppedOf self (length (now (buf .entry))) ⌝ }
     {
@@ -157,7 +137,7 @@ impl Ring {
         Count::of(self.refusal(buf.len()), oldest)
     }
 
-    // The ring as it was made: nothing is retained.
+    // Returns the ring to the state in which it was made: nothing is retained.
     pub fn clear(self, buf: &[u32]) -> Changed
         ensures { λ r. ⌜ r ≡ cleared self (length (now (buf .entry))) ⌝ }
     {
@@ -165,7 +145,7 @@ impl Ring {
     }
 }
 
-// Where the sample of an absolute index stands.
+// Finds where the sample of an absolute index is.
 fn slot(capacity: usize, at: u64) -> usize
     requires { ⌜ 0 < capacity ⌝ }
     ensures { λ r. ⌜ (r ≡ at % capacity) × (r < capacity) ⌝ }
@@ -173,7 +153,7 @@ fn slot(capacity: usize, at: u64) -> usize
     (at % capacity as u64) as usize
 }
 
-// The samples at their slots, from absolute index `next` on.
+// Writes the samples to their slots, from absolute index `next` on.
 fn store_all(buf: &mut [u32], next: u64, samples: &[u32])
     requires { ⌜ (0 < length (now buf)) × (next + length (now samples) ≤ limit) ⌝ }
     ensures { λ _. ⌜ now (buf .exit) ≡ stored next (now (buf .entry)) (now (samples .entry)) ⌝ }

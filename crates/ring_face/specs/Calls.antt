@@ -1,23 +1,25 @@
--- The ring's calls on the word that a host lends. A ring has no setting, so its calls judge lengths alone before what the ring refuses.
+-- The ring's calls on the word that a host lends. A ring has no setting, so its calls judge only lengths before what the ring refuses.
 use Prim.Native.Nat.{ℕ}
 use mathlib.Core.Bool.{Bool, true}
 use mathlib.Core.List.{List, []}
 use lib.ListN.{length}
+use Rattle.answers.specs.declared.Count.{Count}
+use Rattle.answers.specs.Told.{changeTold, countTold}
 use Rattle.words.specs.Words.{fits, oneValue}
+use Rattle.words.specs.Answers.{number, given}
 use Rattle.ring.specs.Ring.{made, pushed, pushedBuf, gotten, nextAbs, capacityOf, droppedOf, cleared}
 use Rattle.ring.specs.declared.Changed.{Changed}
-use Rattle.ring.specs.declared.Count.{Count}
-use Rattle.ring_words.specs.Layout.{ringWords, loaded}
-use Rattle.ring_words.specs.Answers.{changeNumber, changedWords, countNumber, countTold, keptNumber, keptTold}
+use Rattle.ring.specs.Told.{keptTold}
+use Rattle.ring_words.specs.Layout.{ringWords, loaded, changedWords}
 use Rattle.face.specs.Face.{Left, left, settingFirst, judged, unlessRefused}
 
 abbrev pub judgedRing : List ℕ → Bool → ℕ
 judgedRing ws valuesFit = judged (fits ringWords ws) true valuesFit
 
--- ---- calls that change the ring. The buffer is its length to a making and a clearing.
+-- ---- calls that change the ring. Making and clearing use only the length of the buffer.
 
 abbrev pub changeLeft : {B : Type 0} → List ℕ → Changed → B → Left B
-changeLeft ws c b = left (changeNumber (c .answer)) (changedWords ws c) [] b
+changeLeft ws c b = left (number (changeTold (c .answer))) (changedWords ws c) [] b
 
 unfoldable pub newCalled : List ℕ → List ℕ → Left (Unit {0})
 newCalled ws buf = unlessRefused (judgedRing ws true) ws [] tt (changeLeft ws (made (length buf)) tt)
@@ -34,11 +36,12 @@ clearCalled ws buf = unlessRefused (judgedRing ws true) ws [] tt (changeLeft ws 
 
 unfoldable pub getCalled : List ℕ → List ℕ → ℕ → List ℕ → Left (Unit {0})
 getCalled ws buf at vs =
-    let kept = gotten (loaded ws) (length buf) at in
-    unlessRefused (judgedRing ws (fits oneValue vs)) ws vs tt (left (keptNumber kept) ws (keptTold vs kept) tt)
+    let told = keptTold (gotten (loaded ws) (length buf) at) in
+    unlessRefused (judgedRing ws (fits oneValue vs)) ws vs tt (left (number told) ws (given vs told) tt)
 
 abbrev pub countCalled : List ℕ → List ℕ → Count → Left (Unit {0})
-countCalled ws vs count = unlessRefused (judgedRing ws (fits oneValue vs)) ws vs tt (left (countNumber count) ws (countTold vs count) tt)
+countCalled ws vs count =
+    unlessRefused (judgedRing ws (fits oneValue vs)) ws vs tt (left (number (countTold count)) ws (given vs (countTold count)) tt)
 
 unfoldable pub nextAbsCalled : List ℕ → List ℕ → List ℕ → Left (Unit {0})
 nextAbsCalled ws buf vs = countCalled ws vs (nextAbs (loaded ws) (length buf))

@@ -5,7 +5,7 @@ ghost use mathlib.Core.Path.{_≡_};
 ghost use Rattle.ring_words.specs.Layout.{ringWords};
 ghost use Rattle.ring_face.specs.Calls.{judgedRing, newCalled, pushCalled, clearCalled, getCalled, nextAbsCalled, capacityCalled, droppedCalled};
 
-// A ring has no setting that could be outside the table.
+// Judges the lengths. A ring has no setting that could be outside the table.
 fn judge(state: &[u64], values_fit: bool) -> u32
     ensures { λ r. ⌜ r ≡ judgedRing (now (state .entry)) «values_fit» ⌝ }
 {
@@ -15,7 +15,7 @@ fn judge(state: &[u64], values_fit: bool) -> u32
     face::setting_first(true, values_fit)
 }
 
-// How many words a ring's state has.
+// Returns how many words a ring's state has.
 #[no_mangle]
 pub extern "C" fn tmv_ring_words() -> u64
     ensures { λ r. ⌜ r ≡ ringWords ⌝ }
@@ -25,7 +25,7 @@ pub extern "C" fn tmv_ring_words() -> u64
 
 // ---- calls that change the ring
 
-// A ring over `buf`, which is not written.
+// Makes a ring over `buf`, which it does not write.
 #[no_mangle]
 pub extern "C" fn tmv_ring_new(state: &mut [u64], buf: &[u32]) -> u32
     ensures number { λ r. ⌜ r ≡ newCalled (now (state .entry)) (now (buf .entry)) .number ⌝ }
@@ -38,7 +38,7 @@ pub extern "C" fn tmv_ring_new(state: &mut [u64], buf: &[u32]) -> u32
     answering::settle_change(state, Ring::new(buf))
 }
 
-// Far samples as patterns, in played order.
+// Appends far samples as patterns, in the order in which they were played.
 #[no_mangle]
 pub extern "C" fn tmv_ring_push(state: &mut [u64], buf: &mut [u32], samples: &[u32]) -> u32
     ensures number { λ r. ⌜ r ≡ pushCalled (now (state .entry)) (now (buf .entry)) (now (samples .entry)) .number ⌝ }
@@ -53,7 +53,7 @@ pub extern "C" fn tmv_ring_push(state: &mut [u64], buf: &mut [u32], samples: &[u
     answering::settle_change(state, changed)
 }
 
-// Nothing is retained any more.
+// Forgets all samples.
 #[no_mangle]
 pub extern "C" fn tmv_ring_clear(state: &mut [u64], buf: &[u32]) -> u32
     ensures number { λ r. ⌜ r ≡ clearCalled (now (state .entry)) (now (buf .entry)) .number ⌝ }
@@ -68,7 +68,7 @@ pub extern "C" fn tmv_ring_clear(state: &mut [u64], buf: &[u32]) -> u32
 
 // ---- reports
 
-// The place in `buf` of the sample at absolute index `at`, where it is kept.
+// Finds the place in `buf` of the sample at absolute index `at`, if it is kept.
 #[no_mangle]
 pub extern "C" fn tmv_ring_get(state: &[u64], buf: &[u32], at: u64, values: &mut [u64]) -> u32
     ensures number { λ r. ⌜ r ≡ getCalled (now (state .entry)) (now (buf .entry)) at (now (values .entry)) .number ⌝ }
@@ -81,7 +81,7 @@ pub extern "C" fn tmv_ring_get(state: &[u64], buf: &[u32], at: u64, values: &mut
     answering::tell_kept(values, ring_words::load(state).get(buf, at))
 }
 
-// The absolute index of the next sample.
+// Reports the absolute index of the next sample.
 #[no_mangle]
 pub extern "C" fn tmv_ring_next_abs(state: &[u64], buf: &[u32], values: &mut [u64]) -> u32
     ensures number { λ r. ⌜ r ≡ nextAbsCalled (now (state .entry)) (now (buf .entry)) (now (values .entry)) .number ⌝ }
@@ -91,10 +91,10 @@ pub extern "C" fn tmv_ring_next_abs(state: &[u64], buf: &[u32], values: &mut [u6
     if refusal != 0 {
         return refusal;
     }
-    answering::tell_count(values, ring_words::load(state).next_abs(buf))
+    words::tell_count(values, ring_words::load(state).next_abs(buf))
 }
 
-// How many samples back from the next one can still be served.
+// Reports the capacity: how many samples back from the next one the ring keeps.
 #[no_mangle]
 pub extern "C" fn tmv_ring_capacity(state: &[u64], buf: &[u32], values: &mut [u64]) -> u32
     ensures number { λ r. ⌜ r ≡ capacityCalled (now (state .entry)) (now (buf .entry)) (now (values .entry)) .number ⌝ }
@@ -104,10 +104,10 @@ pub extern "C" fn tmv_ring_capacity(state: &[u64], buf: &[u32], values: &mut [u6
     if refusal != 0 {
         return refusal;
     }
-    answering::tell_count(values, ring_words::load(state).capacity(buf))
+    words::tell_count(values, ring_words::load(state).capacity(buf))
 }
 
-// How many samples were overwritten since the making or the last clearing.
+// Reports how many samples were overwritten since the making or the last clearing.
 #[no_mangle]
 pub extern "C" fn tmv_ring_dropped(state: &[u64], buf: &[u32], values: &mut [u64]) -> u32
     ensures number { λ r. ⌜ r ≡ droppedCalled (now (state .entry)) (now (buf .entry)) (now (values .entry)) .number ⌝ }
@@ -117,5 +117,5 @@ pub extern "C" fn tmv_ring_dropped(state: &[u64], buf: &[u32], values: &mut [u64
     if refusal != 0 {
         return refusal;
     }
-    answering::tell_count(values, ring_words::load(state).dropped(buf))
+    words::tell_count(values, ring_words::load(state).dropped(buf))
 }

@@ -3,10 +3,11 @@
 ghost use mathlib.Core.Path.{_≡_};
 ghost use Prim.Native.Nat.{_+_, _≤_};
 ghost use lib.ListN.{length};
-use ring::Count;
+use answers::Count;
 use ring::Kept;
 use ring::Ring;
 use vectors::Tally;
+use vectors::buffers::at_most;
 
 // The ring, the length of the buffer that it is lent, and the tally.
 struct Run {
@@ -69,13 +70,6 @@ fn blank(buf: &mut [u32]) {
     }
 }
 
-fn at_most(n: u32, most: usize) -> usize
-    ensures { λ r. ⌜ r ≤ most ⌝ }
-{
-    let m = n as usize;
-    if m <= most { m } else { most }
-}
-
 fn same_count(c: Count, n: u64) -> bool {
     match c {
         Count::Refused(_) => false,
@@ -114,7 +108,7 @@ fn push_of(ring: Ring, buf: &mut [u32], samples: &mut [u32], bytes: &[u8], at: u
 {
     let seed = vectors::number32(bytes, at + 8);
     let mask = vectors::number32(bytes, at + 12);
-    let n = at_most(vectors::number32(bytes, at + 4), samples.len());
+    let n = at_most(vectors::number32(bytes, at + 4) as u64, samples.len());
     push_made(ring, buf, &mut samples[..n], seed, mask)
 }
 
@@ -183,7 +177,7 @@ fn capacity_of(given: usize, most: usize, bytes: &[u8], at: usize) -> usize
     ensures { λ r. ⌜ r ≤ most ⌝ }
 {
     if vectors::number(bytes, at, 1) == 1 {
-        return at_most(vectors::number32(bytes, at + 4), most);
+        return at_most(vectors::number32(bytes, at + 4) as u64, most);
     }
     given
 }

@@ -1,3 +1,2 @@
--- A ring's state as a word, and its calls' answers as numbers and values.
+-- A ring's state as a word.
 pub mod Layout
-pub mod Answers

@@ -1,4 +1,4 @@
-// A ring's state as the word that a host lends, and its calls' answers as numbers and values.
+// Loads a ring's state from the word that a host lends, stores it there, and turns its calls' answers into numbers and values.
 ghost use mathlib.Core.Path.{_≡_};
 ghost use lib.ListN.{length};
 ghost use Rattle.ring_words.specs.Layout.{ringWords, loaded, settled};
@@ -15,7 +15,7 @@ pub fn load(state: &[u64]) -> Ring
     Ring { accepted: state[0] }
 }
 
-// What a call leaves in the words, nothing new where it was refused; and the call's number.
+// Stores what a call leaves in the words, nothing new if it was refused, and returns the call's number.
 pub fn settle(state: &mut [u64], number: u32, ring: Ring) -> u32
     requires { ⌜ length (now state) ≡ ringWords ⌝ }
     ensures number { λ r. ⌜ r ≡ number ⌝ }

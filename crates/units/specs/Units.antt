@@ -1,4 +1,4 @@
--- Document 01, "Bins and blocks": bins and native samples are two units.
+-- SPECIFICATION 6: bins and native samples are two units.
 use Prim.Native.Nat.{ℕ, _*_}
 use Rattle.units.specs.declared.Samples.{Samples}
 use Rattle.units.specs.declared.Bins.{Bins}
@@ -9,6 +9,6 @@ samples n = record { 0 = n }
 abbrev pub bins : ℕ → Bins
 bins n = record { 0 = n }
 
--- a delay in bins, in native samples: the one conversion, by the decimation
+-- Converts a delay in bins to native samples, by the decimation. This is the only conversion.
 abbrev pub inSamples : ℕ → Bins → Samples
 inSamples decimation b = samples (b .0 * decimation)

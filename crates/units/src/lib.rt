@@ -10,7 +10,7 @@ pub struct Samples(pub u64);
 pub struct Bins(pub u64);
 
 impl Bins {
-    // The same delay in native samples.
+    // Converts the delay to native samples.
     pub fn in_samples(self, decimation: u64) -> Samples
         requires { ⌜ self .0 * decimation < 2 ^ 64 ⌝ }
         ensures { λ r. ⌜ r ≡ inSamples decimation self ⌝ }

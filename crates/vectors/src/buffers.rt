@@ -6,8 +6,7 @@ ghost use Prim.Native.Nat.{_≤_};
 pub fn at_most(n: u64, most: usize) -> usize
     ensures { λ r. ⌜ r ≤ most ⌝ }
 {
-    let m = n as usize;
-    if m <= most { m } else { most }
+    answers::smaller(n, most as u64) as usize
 }
 
 // The first n entries, or all where there are fewer.
@@ -31,7 +30,7 @@ pub fn hash64_first(xs: &[f64], n: u64) -> u64 {
 pub fn store32(out: &mut [f32], place: u32, bits: u64) {
     let i = place as usize;
     if i < out.len() {
-        out[i] = recording::sample((bits % 0x1_0000_0000) as u32);
+        out[i] = floats::bits::float32((bits % 0x1_0000_0000) as u32);
     }
 }
 
@@ -47,5 +46,5 @@ pub fn read32(fd: i32, out: &mut [f32]) {
 fn next32(fd: i32) -> f32 {
     let mut bytes = [0u8; 4];
     io::read_full(fd, &mut bytes);
-    recording::sample(crate::number32(&bytes, 0))
+    floats::bits::float32(crate::number32(&bytes, 0))
 }

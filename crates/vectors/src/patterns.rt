@@ -1,29 +1,6 @@
-// Floats and their bit patterns, and the hash that stands for a whole buffer.
+// The hash that stands for a whole buffer: of the bit patterns of its floats.
+use floats::bits;
 ghost use Prim.Native.Nat.{_<_, _^_};
-
-// Every NaN is written as the quiet one without a sign.
-pub fn bits32(x: f32) -> u32 {
-    if x != x {
-        return 0x7fc0_0000;
-    }
-    f32::to_bits(x)
-}
-
-pub fn bits64(x: f64) -> u64 {
-    if x != x {
-        return 0x7ff8_0000_0000_0000;
-    }
-    f64::to_bits(x)
-}
-
-// The f64 of a pattern. Every NaN's pattern is a NaN.
-pub fn float64(bits: u64) -> f64 {
-    let size = bits % 0x8000_0000_0000_0000;
-    if 0x7ff0_0000_0000_0000 < size {
-        return 0.0 / 0.0;
-    }
-    f64::from_bits(bits)
-}
 
 // A hash goes on with one more word.
 fn hashed(h: u64, word: u64) -> u64
@@ -45,7 +22,7 @@ pub fn hash32(xs: &[f32]) -> u64 {
     let mut h = 1;
     let mut i = 0;
     while i < xs.len() {
-        h = hashed(h, bits32(xs[i]) as u64);
+        h = hashed(h, bits::pattern32(xs[i]) as u64);
         i += 1;
     }
     h
@@ -55,7 +32,7 @@ pub fn hash64(xs: &[f64]) -> u64 {
     let mut h = 1;
     let mut i = 0;
     while i < xs.len() {
-        h = hashed_twice(h, bits64(xs[i]));
+        h = hashed_twice(h, bits::pattern64(xs[i]));
         i += 1;
     }
     h

@@ -68,7 +68,7 @@ impl Signal {
     pub fn at(self, place: u64) -> f32 {
         let n = in_period(place, self.period);
         let fraction = word(self.seed, n) & self.mask & 0x807f_ffff;
-        recording::sample(fraction | (self.exponent(n) << 23))
+        floats::bits::float32(fraction | (self.exponent(n) << 23))
     }
 
     // The samples from `place` on.

@@ -44,6 +44,14 @@ reads f old x h =
     (λ e. nan-reads f old ∙ sym (is-nan x e))
     (λ e. ofBits-toBits f x h)
 
+-- where nothing stands that is kept, the pattern is the float's own
+pub alone : (f : Format) (x : Float) → patternOf f 0 x ≡ toBits f x
+unfolding patternOf pick isNan nanBits
+alone binary32 nan = refl
+alone binary64 nan = refl
+alone f (inf s) = refl
+alone f (fin s m e) = refl
+
 pub pattern-lt : (old : ℕ) (x : Float) → old < 2 ^ 32 → T (Ieee.fits binary32 x) → patternOf binary32 old x < 2 ^ 32
 unfolding patternOf
 pattern-lt old x o h =

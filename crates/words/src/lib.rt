@@ -1,10 +1,16 @@
-// One word: a number of 32 bits, or a float's pattern. A NaN has no pattern in the logic, so it is made by a division and told by its size.
+// Reads and writes one word: a number of 32 bits, or a float's pattern. A NaN has no pattern in the logic; a pattern is recognised as a NaN's by its size.
+use answers::Change;
+use answers::Count;
+use answers::Flag;
+use floats::bits;
 ghost use mathlib.Core.Path.{_≡_};
 ghost use Prim.Native.Nat.{_<_, _^_};
-ghost use lib.Ieee.{binary32, binary64, ofBits};
+ghost use lib.Ieee.{binary32, binary64};
 ghost use lib.ListN.{length};
+ghost use Rattle.answers.specs.Told.{changeTold, countTold, flagTold};
 ghost use Rattle.words.specs.Words;
-ghost use Rattle.words.specs.Words.{allBelow, patternOf, flagOf};
+ghost use Rattle.words.specs.Words.{allBelow, patternOf, flagOf, oneValue};
+ghost use Rattle.words.specs.Answers.{number, given};
 
 // How many values a report of one number has.
 pub const ONE_VALUE: usize = 1;
@@ -13,13 +19,9 @@ const SIGN: u64 = 0x8000_0000_0000_0000;
 
 const INFINITE: u64 = 0x7ff0_0000_0000_0000;
 
-const NO_NUMBER: u64 = 0x7ff8_0000_0000_0000;
-
 const SIGN_32: u32 = 0x8000_0000;
 
 const INFINITE_32: u32 = 0x7f80_0000;
-
-const NO_NUMBER_32: u32 = 0x7fc0_0000;
 
 pub fn half(w: u64, other: u32) -> u32
     ensures { λ r. ⌜ r ≡ Words.half w other ⌝ }
@@ -42,24 +44,6 @@ pub fn all_below(limit: u64, first: u64, second: u64, third: u64) -> bool
     third < limit
 }
 
-pub fn float(w: u64) -> f64
-    ensures { λ r. ⌜ r ≡ ofBits binary64 w ⌝ }
-{
-    if w % SIGN > INFINITE {
-        return 0.0 / 0.0;
-    }
-    f64::from_bits(w)
-}
-
-pub fn float32(w: u32) -> f32
-    ensures { λ r. ⌜ r ≡ ofBits binary32 w ⌝ }
-{
-    if w % SIGN_32 > INFINITE_32 {
-        return 0.0 / 0.0;
-    }
-    f32::from_bits(w)
-}
-
 pub fn pattern(old: u64, x: f64) -> u64
     ensures { λ r. ⌜ r ≡ patternOf binary64 old x ⌝ }
 {
@@ -67,9 +51,8 @@ pub fn pattern(old: u64, x: f64) -> u64
         if old % SIGN > INFINITE {
             return old;
         }
-        return NO_NUMBER;
     }
-    f64::to_bits(x)
+    bits::pattern64(x)
 }
 
 pub fn pattern32(old: u32, x: f32) -> u32
@@ -79,9 +62,8 @@ pub fn pattern32(old: u32, x: f32) -> u32
         if old % SIGN_32 > INFINITE_32 {
             return old;
         }
-        return NO_NUMBER_32;
     }
-    f32::to_bits(x)
+    bits::pattern32(x)
 }
 
 pub fn flag(b: bool) -> u64
@@ -93,7 +75,39 @@ pub fn flag(b: bool) -> u64
     0
 }
 
-// A whole state, word by word.
+pub fn change_number(change: Change) -> u32
+    ensures { λ r. ⌜ r ≡ number (changeTold change) ⌝ }
+{
+    match change {
+        Change::Refused(n) => n as u32,
+        Change::Done => 16,
+    }
+}
+
+pub fn flag_number(flag: Flag) -> u32
+    ensures { λ r. ⌜ r ≡ number (flagTold flag) ⌝ }
+{
+    match flag {
+        Flag::Refused(n) => n as u32,
+        Flag::Is(yes) => if yes { 17 } else { 16 },
+    }
+}
+
+pub fn tell_count(values: &mut [u64], count: Count) -> u32
+    requires { ⌜ length (now values) ≡ oneValue ⌝ }
+    ensures number { λ r. ⌜ r ≡ number (countTold count) ⌝ }
+    ensures values { λ r. ⌜ now (values .exit) ≡ given (now (values .entry)) (countTold count) ⌝ }
+{
+    match count {
+        Count::Refused(n) => n as u32,
+        Count::Is(n) => {
+            values[0] = n;
+            16
+        }
+    }
+}
+
+// Copies a whole state, word by word.
 pub fn put(from: &[u64], to: &mut [u64])
     requires { ⌜ length (now from) ≡ length (now to) ⌝ }
     ensures { λ _. ⌜ now (to .exit) ≡ now (from .entry) ⌝ }

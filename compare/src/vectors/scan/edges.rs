@@ -5,7 +5,7 @@ use crate::coarse::FrameAnswer;
 use crate::random::Random;
 use crate::signal::{Signal, SILENCE, UNSIGNED};
 
-/// Document 01's floors, as the original writes them.
+/// The scope paper's floors, as the original writes them.
 const MEAN_FLOOR: f64 = 3.162_277_7e-4;
 const ENERGY_FLOOR: f64 = 1e-12;
 

@@ -13,10 +13,10 @@ use Rattle.folds.proofs.search_down.Statement.{statement}
 use Rattle.folds.proofs.search_down.Tie as tie
 
 abbrev Inv-loop : tie.InvT-loop
-Inv-loop xs value₀ at₀ n₀ value at n = (n ≤ length xs) × (peak at value ≡ downFrom (drop n xs) n)
+Inv-loop xs value₀ place₀ n₀ value place n = (n ≤ length xs) × (peak place value ≡ downFrom (drop n xs) n)
 
 abbrev μ-loop : tie.MeasureT-loop
-μ-loop xs value₀ at₀ n₀ value at n = n
+μ-loop xs value₀ place₀ n₀ value place n = n
 
 loop-holds : tie.Need-loop-holds Inv-loop μ-loop
 unfolding ofBits

@@ -23,6 +23,9 @@ add-number32-3 c = search needs
 number32-requires-3 : tie.Need-number32-requires-3
 number32-requires-3 c κs = search needs
 
+cast-at-most : tie.Need-cast-at-most
+cast-at-most c = search needs
+
 at-most-requires : tie.Need-at-most-requires
 at-most-requires c κs = search needs
 
@@ -54,6 +57,7 @@ push-of-spec =
     number32-requires-2
     add-number32-3
     number32-requires-3
+    cast-at-most
     at-most-requires
     slice-relend-prefix-push-made
     slice-aggregate-push-made

@@ -14,14 +14,14 @@ abbrev μ-loop : tie.MeasureT-loop
 loop-holds : tie.Need-loop-holds Inv-loop μ-loop
 loop-holds c = search needs
 
-mul-bits32 : tie.Need-mul-bits32 Inv-loop μ-loop
-mul-bits32 c = search needs
+mul-pattern32 : tie.Need-mul-pattern32 Inv-loop μ-loop
+mul-pattern32 c = search needs
 
-shared-slice-read-bits32 : tie.Need-shared-slice-read-bits32 Inv-loop μ-loop
-shared-slice-read-bits32 c = search needs
+shared-slice-read-pattern32 : tie.Need-shared-slice-read-pattern32 Inv-loop μ-loop
+shared-slice-read-pattern32 c = search needs
 
-bits32-requires : tie.Need-bits32-requires Inv-loop μ-loop
-bits32-requires c κs = search needs
+pattern32-requires : tie.Need-pattern32-requires Inv-loop μ-loop
+pattern32-requires c κs = search needs
 
 cast-hashed : tie.Need-cast-hashed Inv-loop μ-loop
 cast-hashed c = search needs
@@ -48,9 +48,9 @@ hash32-spec =
     Inv-loop
     μ-loop
     loop-holds
-    mul-bits32
-    shared-slice-read-bits32
-    bits32-requires
+    mul-pattern32
+    shared-slice-read-pattern32
+    pattern32-requires
     cast-hashed
     hashed-requires
     add-i

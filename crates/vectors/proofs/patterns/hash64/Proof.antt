@@ -14,14 +14,14 @@ abbrev μ-loop : tie.MeasureT-loop
 loop-holds : tie.Need-loop-holds Inv-loop μ-loop
 loop-holds c = search needs
 
-mul-bits64 : tie.Need-mul-bits64 Inv-loop μ-loop
-mul-bits64 c = search needs
+mul-pattern64 : tie.Need-mul-pattern64 Inv-loop μ-loop
+mul-pattern64 c = search needs
 
-shared-slice-read-bits64 : tie.Need-shared-slice-read-bits64 Inv-loop μ-loop
-shared-slice-read-bits64 c = search needs
+shared-slice-read-pattern64 : tie.Need-shared-slice-read-pattern64 Inv-loop μ-loop
+shared-slice-read-pattern64 c = search needs
 
-bits64-requires : tie.Need-bits64-requires Inv-loop μ-loop
-bits64-requires c κs = search needs
+pattern64-requires : tie.Need-pattern64-requires Inv-loop μ-loop
+pattern64-requires c κs = search needs
 
 hashed-twice-requires : tie.Need-hashed-twice-requires Inv-loop μ-loop
 hashed-twice-requires c κs = search needs
@@ -45,9 +45,9 @@ hash64-spec =
     Inv-loop
     μ-loop
     loop-holds
-    mul-bits64
-    shared-slice-read-bits64
-    bits64-requires
+    mul-pattern64
+    shared-slice-read-pattern64
+    pattern64-requires
     hashed-twice-requires
     add-i
     loop-less

@@ -1,8 +1,8 @@
 -- `Count::of` meets its contract.
 use Rattle.answers.proofs.Cases.{cases}
-use Rattle.ring.specs.Ring.{counted}
-use Rattle.ring.proofs.Count.of.Statement.{statement}
-use Rattle.ring.proofs.Count.of.Tie as tie
+use Rattle.answers.specs.Answers.{counted}
+use Rattle.answers.proofs.Count.of.Statement.{statement}
+use Rattle.answers.proofs.Count.of.Tie as tie
 
 returns : tie.Need-returns
 unfolding counted
