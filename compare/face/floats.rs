@@ -1,4 +1,4 @@
-//! Square root, narrowing, finite tests and the absolute value against the processor's own; document 01 fixes what a NaN gives.
+//! Square root, narrowing, finite tests and the absolute value against the processor's own; the scope paper fixes what a NaN gives.
 
 use crate::face;
 use crate::random::Random;
@@ -62,26 +62,36 @@ fn pattern(random: &mut Random) -> u64 {
     }
 }
 
-pub fn run(seed: u64, count: u64) -> bool {
-    let one = |what: &str, differs: &dyn Fn(u64) -> Option<String>| {
-        let mut random = Random::new(seed);
-        let mut different = 0;
-        for _ in 0..count {
-            let bits = pattern(&mut random);
-            if let Some(told) = differs(bits) {
-                different += 1;
-                if different <= 5 {
-                    println!("{what} seed {seed}: of {bits:#018x} {told}");
-                }
+/// Tries `count` patterns: `differs` says how an answer differs.
+fn tried(what: &str, seed: u64, count: u64, differs: &dyn Fn(u64) -> Option<String>) -> bool {
+    let mut random = Random::new(seed);
+    let mut different = 0;
+    for _ in 0..count {
+        let bits = pattern(&mut random);
+        if let Some(told) = differs(bits) {
+            different += 1;
+            if different <= 5 {
+                println!("{what} seed {seed}: of {bits:#018x} {told}");
             }
         }
-        println!("{what} seed {seed}: {count} patterns, {different} different");
-        different == 0
-    };
-    let roots = one("square root", &|bits| {
+    }
+    println!("{what} seed {seed}: {count} patterns, {different} different");
+    different == 0
+}
+
+/// Square roots, each by itself and in lists.
+pub fn roots(seed: u64, count: u64) -> bool {
+    let single = tried("square root", seed, count, &|bits| {
         let (got, due) = (face::square_root(bits), root(bits));
         (got != due).then(|| format!("{got:#x}, not {due:#x}"))
     });
+    lists(seed, count) && single
+}
+
+pub fn run(seed: u64, count: u64) -> bool {
+    let one =
+        |what: &str, differs: &dyn Fn(u64) -> Option<String>| tried(what, seed, count, differs);
+    let roots = roots(seed, count);
     let narrowings = one("narrowing", &|bits| {
         let (got, due) = (face::narrow(bits), narrowed(bits));
         (got != due).then(|| format!("{got:#x}, not {due:#x}"))
@@ -104,4 +114,31 @@ pub fn run(seed: u64, count: u64) -> bool {
         (got != due).then(|| format!("{got:#x}, not {due:#x}"))
     });
     roots && narrowings && finite && finite32 && magnitudes
+}
+
+/// Square roots in lists of every length from none to 500.
+fn lists(seed: u64, count: u64) -> bool {
+    let mut random = Random::new(seed);
+    let (mut tried, mut different) = (0, 0);
+    while tried < count {
+        let given: Vec<u64> = (0..random.below(501).min(count - tried))
+            .map(|_| pattern(&mut random))
+            .collect();
+        let mut list = given.clone();
+        face::square_roots(&mut list);
+        for (bits, got) in given.iter().zip(&list) {
+            if *got != root(*bits) {
+                different += 1;
+                if different <= 5 {
+                    println!(
+                        "square roots seed {seed}: of {bits:#018x} {got:#x}, not {:#x}",
+                        root(*bits)
+                    );
+                }
+            }
+        }
+        tried += given.len() as u64;
+    }
+    println!("square roots in lists seed {seed}: {tried} patterns, {different} different");
+    different == 0
 }

@@ -3,7 +3,7 @@
 //   make_vectors FOLDER      writes FOLDER/narrowing.bin and FOLDER/square_root.bin
 //
 // A pair is 16 bytes: the f64's pattern and the answer's, little-endian, eight bytes each. The NaN patterns of the answers are those of
-// document 01. The patterns are picked by a fixed recipe, so that every run writes the same bytes.
+// the scope paper. The patterns are picked by a fixed recipe, so that every run writes the same bytes.
 #include <mpfr.h>
 #include <stdint.h>
 #include <stdio.h>
@@ -11,6 +11,9 @@
 #include <string.h>
 
 enum { PAIRS = 24576 };
+
+// The table of first guesses has so many entries, and serves the numbers from 2^52 to 2^54.
+enum { ENTRIES = 1024 };
 
 static const uint64_t SIGN = 1ull << 63;
 static const uint64_t INFINITE = 0x7ff0000000000000ull;
@@ -61,20 +64,25 @@ static uint64_t root(uint64_t pattern) {
 
 static FILE *out;
 static uint64_t (*answer_of)(uint64_t);
-static int written;
+static int written, most;
 
 static void put(uint64_t n) {
     for (int i = 0; i < 8; i++) fputc((int)(n >> 8 * i & 255), out);
 }
 
 static void pair(uint64_t pattern) {
-    if (written == PAIRS) return;
+    if (written == most) return;
     put(pattern);
     put(answer_of(pattern));
     written++;
 }
 
-// The pattern, the one before it and the one after it, with either sign.
+// The pattern, the one before it and the one after it.
+static void beside(uint64_t pattern) {
+    for (int i = -1; i <= 1; i++) pair(pattern + i);
+}
+
+// The same with either sign.
 static void around(uint64_t size) {
     for (int i = -1; i <= 1; i++) {
         pair((size + i) & ~SIGN);
@@ -137,6 +145,21 @@ static void narrowing(void) {
     while (written < PAIRS) pair(any());
 }
 
+// Where one entry of the table of first guesses ends and the next begins, at any even exponent; the double of that number, whose exponent has the other
+// parity; and the same digits in a subnormal number, at any place.
+static void table_ends(void) {
+    for (uint64_t i = 0; i <= ENTRIES; i++) {
+        uint64_t end = (1024 + 3 * i) << 42;
+        double d = (double)end;
+        uint64_t pattern;
+        memcpy(&pattern, &d, 8);
+        pattern = pattern - (1000ull << 52) + (below(900) << 53);
+        beside(pattern);
+        beside(pattern + (1ull << 52));
+        beside((1024 + 3 * i) << below(40));
+    }
+}
+
 static void rooting(void) {
     specials();
     // Subnormal numbers of each length.
@@ -176,9 +199,10 @@ static void rooting(void) {
     }
     while (written < PAIRS - 2048) pair(any() & ~SIGN);
     while (written < PAIRS) pair(any());
+    table_ends();
 }
 
-static void file(const char *folder, const char *name, uint64_t (*of)(uint64_t), void (*patterns)(void)) {
+static void file(const char *folder, const char *name, int pairs, uint64_t (*of)(uint64_t), void (*patterns)(void)) {
     char path[4096];
     snprintf(path, sizeof path, "%s/%s", folder, name);
     out = fopen(path, "wb");
@@ -188,6 +212,7 @@ static void file(const char *folder, const char *name, uint64_t (*of)(uint64_t),
     }
     answer_of = of;
     written = 0;
+    most = pairs;
     patterns();
     if (fclose(out)) {
         perror(path);
@@ -200,7 +225,7 @@ int main(int count, char **words) {
         fprintf(stderr, "usage: make_vectors FOLDER\n");
         return 2;
     }
-    file(words[1], "narrowing.bin", narrowed, narrowing);
-    file(words[1], "square_root.bin", root, rooting);
+    file(words[1], "narrowing.bin", PAIRS, narrowed, narrowing);
+    file(words[1], "square_root.bin", PAIRS + (ENTRIES + 1) * 9, root, rooting);
     return 0;
 }

@@ -30,7 +30,22 @@ pub fn root() {
         || each(&patterns, face::square_root),
         || each(&patterns, |bits| f64::from_bits(bits).sqrt()),
     );
-    times.row("square root, beside the hardware's", COUNT);
+    times.row("square root by itself, beside the hardware's", COUNT);
+}
+
+/// As many roots as a counted frame has at 48,000 / 500, in one list.
+pub fn roots() {
+    const LIST: usize = 501;
+    let patterns = patterns();
+    let times = Times::take(
+        300,
+        || {
+            let mut list = patterns[..LIST].to_vec();
+            nanoseconds(|| face::square_roots(black_box(&mut list)))
+        },
+        || each(&patterns[..LIST], |bits| f64::from_bits(bits).sqrt()),
+    );
+    times.row("square root in a list of 501, beside the hardware's", LIST);
 }
 
 pub fn narrowing() {

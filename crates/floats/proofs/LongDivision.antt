@@ -7,7 +7,8 @@ use mathlib.Core.Bool.{Bool, true, false, cond}
 use lib.Dec.{T, eqb, eqb→eq, lit≤}
 use lib.Ieee.Fits.{eq→eqb}
 use Rattle.floats.proofs.SquareRoots.{root-from, root-to}
-use Rattle.floats.specs.Steps.{IsRoot, Started, Close, Marked, sticky}
+use Rattle.root_table.specs.Guesses.{IsRoot}
+use Rattle.floats.specs.Steps.{Started, Close, Marked, sticky}
 
 square : (r b q : ℕ) → (r * b + q) * (r * b + q) ≡ r * r * (b * b) + r * q * b + (r * q * b + q * q)
 square r b q =

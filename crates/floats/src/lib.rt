@@ -1,4 +1,6 @@
-// Float helpers: an f64 narrowed to an f32, and the square root of an f64, worked out on bit patterns with whole numbers.
+// Float helpers: narrow an f64 to an f32, and take the square root of an f64, on bit patterns and with whole numbers.
+pub mod bits; // a float from its bit pattern and back
+
 ghost use mathlib.Core.Path.{_≡_};
 ghost use mathlib.Core.Bool.{true};
 ghost use Prim.Native.Nat.{_+_, _-_, _*_, _^_, _<_, _≤_};
@@ -8,10 +10,13 @@ ghost use Rattle.floats.specs.Operations.{Narrows, Roots, NarrowsBits, R
 ghost use lib.Ieee.Scale.{finite};
 ghost use Rattle.floats.specs.Functions;
 ghost use Rattle.floats.specs.Functions.{rootBits};
-ghost use Rattle.floats.specs.Steps.{NarrowedSize, IsRoot, Started, Close, Marked, Shifted, RootAt};
+ghost use Rattle.floats.specs.Steps.{NarrowedSize, Started, Close, Marked, Shifted, RootAt};
+ghost use Rattle.root_table.specs.Guesses.{Table};
+use root_table::first_guesses;
+use root_table::whole_root;
 
-// An f64's pattern: the sign, eleven digits of the exponent's field, 52 digits below the leading one. SIGN and LEADING are the weights of
-// the sign and of the exponent's field, which is that of the leading digit too.
+// An f64's pattern has the sign, eleven digits of the exponent's field, and 52 digits below the leading one. SIGN and LEADING are the weights of
+// the sign and of the exponent's field, which is also that of the leading digit.
 const SIGN: u64 = 0x8000_0000_0000_0000;
 
 const LEADING: u64 = 0x10_0000_0000_0000;
@@ -20,7 +25,7 @@ const INFINITE: u64 = 0x7ff0_0000_0000_0000;
 
 const NO_NUMBER: u64 = 0x7ff8_0000_0000_0000;
 
-// The same of an f32's pattern.
+// The same for an f32's pattern.
 const SIGN_32: u64 = 0x8000_0000;
 
 const INFINITE_32: u64 = 0x7f80_0000;
@@ -34,8 +39,8 @@ fn pow2(k: u64) -> u64
     1 << k
 }
 
-// m / 2^k to the nearest whole number, a tie to the even one. What is left of m, with half a unit less one, and with one more where q is odd,
-// reaches the unit exactly where the next whole number is taken: no branch, since a test of what is left would be guessed wrong every other time.
+// Rounds m / 2^k to the nearest whole number, a tie to the even one. What is left of m, plus half a unit less one, plus one if q is odd,
+// reaches the unit exactly if the next whole number is taken. There is no branch, since a test of what is left would be mispredicted every other time.
 fn to_even(m: u64, k: u64) -> u64
     requires { ⌜ (0 < k) × (k < 64) ⌝ }
     ensures { λ r. ⌜ r ≡ closest m (2 ^ k) ⌝ }
@@ -50,7 +55,7 @@ fn to_even(m: u64, k: u64) -> u64
 
 // ---- narrowing
 
-// The patterns of 2^-126 and of 2^128: between them a number has an f32's exponent.
+// The patterns of 2^-126 and of 2^128. A number between them has an f32's exponent.
 const LOWEST: u64 = 0x3810_0000_0000_0000;
 
 const TOO_LARGE: u64 = 0x47f0_0000_0000_0000;
@@ -64,7 +69,7 @@ fn is_usual(b: u64) -> bool
     b < TOO_LARGE
 }
 
-// The usual case: exponent and digits together lose 29 places, a tie to the even pattern, and the exponent's field counts from 2^-126 on.
+// Narrows in the usual case: exponent and digits together lose 29 places, a tie goes to the even pattern, and the exponent's field counts from 2^-126 on.
 fn narrow_usual(size: u64) -> u64
     requires { ⌜ (0x3810_0000_0000_0000 ≤ size) × (size < 0x47f0_0000_0000_0000) ⌝ }
     ensures { λ r. ⌜ NarrowedSize size r ⌝ }
@@ -73,8 +78,8 @@ fn narrow_usual(size: u64) -> u64
     ((size + 0xfff_ffff + odd) >> 29) - 0x1_c000_0000
 }
 
-// The narrowed pattern without its sign, for a pattern without its sign that is no NaN's. In an f32's smallest values, 2^-149, the number is
-// m / 2^(926 - x): too large, too small, subnormal or normal. A carry out of the digits adds one to the exponent's field, as it should.
+// Narrows a pattern without its sign that is not a NaN's; the result is without its sign too. In units of an f32's smallest value, 2^-149, the number is
+// m / 2^(926 - x): it is too large, too small, subnormal or normal. A carry out of the digits adds one to the exponent's field, as it should.
 fn narrow_size(size: u64) -> u64
     requires { ⌜ size ≤ 0x7ff0_0000_0000_0000 ⌝ }
     ensures { λ r. ⌜ NarrowedSize size r ⌝ }
@@ -93,7 +98,7 @@ fn narrow_size(size: u64) -> u64
     narrow_usual(size)
 }
 
-// Any pattern, narrowed.
+// Narrows any pattern.
 fn narrow_any(b: u64) -> u32
     ensures { λ r. ⌜ NarrowsBits b r ⌝ }
 {
@@ -108,7 +113,7 @@ fn narrow_any(b: u64) -> u32
     (r + SIGN_32) as u32
 }
 
-// The pattern of an f64, narrowed to an f32's. The usual case comes first: it takes a quarter of the time.
+// Narrows the pattern of an f64 to that of an f32. The usual case comes first: it takes a quarter of the time.
 pub fn narrow_bits(b: u64) -> u32
     ensures { λ r. ⌜ NarrowsBits b r ⌝ }
 {
@@ -118,33 +123,16 @@ pub fn narrow_bits(b: u64) -> u32
     narrow_any(b)
 }
 
-// ---- the square root
+// ---- the square root. It starts with a first guess from a table: whoever takes many roots makes the table once and lends it.
 
-// The whole root of m, bit by bit.
-fn half_root(m: u64) -> u64
-    requires { ⌜ (2 ^ 52 ≤ m) × (m < 2 ^ 54) ⌝ }
-    ensures { λ r. ⌜ IsRoot m r ⌝ }
-{
-    let mut r: u64 = 0;
-    let mut i: u64 = 27;
-    while 0 < i {
-        i = i - 1;
-        let c = r + pow2(i);
-        if c * c <= m {
-            r = c;
-        }
-    }
-    r
-}
-
-// A number s near a root: its square is off by `have` below and `want` above.
+// A number s near the root of an n: s * s + have = n + want.
 struct Wide {
     s: u64,
     have: u64,
     want: u64,
 }
 
-// From the whole root r of m to one of m * 4^27, by one long division.
+// Goes from the whole root r of m to a number close to the root of m * 4^27, by one long division.
 fn widen(m: u64, r: u64) -> Wide
     requires { ⌜ Started m r ⌝ }
     ensures { λ w. ⌜ (w .s * w .s + w .have ≡ m * 2 ^ 54 + w .want) × Close (w .s) (w .have) (w .want) ⌝ }
@@ -159,7 +147,7 @@ fn widen(m: u64, r: u64) -> Wide
     }
 }
 
-// Twice the whole root, and 1 more where the root is not whole.
+// Gives twice the whole root, and 1 more if the root is not whole.
 fn mark(w: Wide) -> u64
     requires { ⌜ Close (w .s) (w .have) (w .want) ⌝ }
     ensures { λ r. ⌜ Marked (w .s * w .s + w .have - w .want) r ⌝ }
@@ -199,40 +187,41 @@ fn shift_up(t: u64) -> Up
     Up { m, z }
 }
 
-// The pattern of the root of m * 2^(e - 2096), for an m of 53 digits.
-fn root_scaled(m: u64, e: u64) -> u64
-    requires { ⌜ (2 ^ 52 ≤ m) × (m < 2 ^ 53) × (e < 4096) ⌝ }
+// Gives the pattern of the root of m * 2^(e - 2096), for an m of 53 digits.
+fn root_scaled(guesses: &[u16], m: u64, e: u64) -> u64
+    requires { ⌜ (2 ^ 52 ≤ m) × (m < 2 ^ 53) × (e < 4096) × Table (now guesses) ⌝ }
     ensures { λ r. ⌜ RootAt m e r ⌝ }
 {
     let n = m + m * (e % 2);
-    let w = mark(widen(n, half_root(n)));
+    let w = mark(widen(n, whole_root(guesses, n)));
     e / 2 * LEADING + to_even(w, 2)
 }
 
-// The root's pattern, for a pattern of a finite number above zero.
-fn root_size(b: u64) -> u64
-    requires { ⌜ (0 < b) × (b < 0x7ff0_0000_0000_0000) ⌝ }
+// Gives the root's pattern, for the pattern of a finite number above zero.
+fn root_size(guesses: &[u16], b: u64) -> u64
+    requires { ⌜ (0 < b) × (b < 0x7ff0_0000_0000_0000) × Table (now guesses) ⌝ }
     ensures { λ r. ⌜ r ≡ rootBits b ⌝ }
 {
     let x = b / LEADING;
     let t = b % LEADING;
     if 0 < x {
-        return root_scaled(t + LEADING, x + 1021);
+        return root_scaled(guesses, t + LEADING, x + 1021);
     }
     let up = shift_up(t);
     let z = up.z;
-    root_scaled(up.m, 1022 - z)
+    root_scaled(guesses, up.m, 1022 - z)
 }
 
-// The pattern of an f64's square root.
-pub fn root_bits(b: u64) -> u64
+// Gives the pattern of an f64's square root. The table is lent.
+pub fn root_bits_with(guesses: &[u16], b: u64) -> u64
+    requires { ⌜ Table (now guesses) ⌝ }
     ensures { λ r. ⌜ RootsBits b r ⌝ }
 {
     if b % SIGN == 0 {
         return b;
     }
     if b < INFINITE {
-        return root_size(b);
+        return root_size(guesses, b);
     }
     if b == INFINITE {
         return INFINITE;
@@ -240,9 +229,16 @@ pub fn root_bits(b: u64) -> u64
     NO_NUMBER
 }
 
+pub fn root_bits(b: u64) -> u64
+    ensures { λ r. ⌜ RootsBits b r ⌝ }
+{
+    let guesses = first_guesses();
+    root_bits_with(&guesses, b)
+}
+
 // ---- on floats. A NaN has no pattern in the logic, so it is made by a division.
 
-// An f64 as an f32, rounded.
+// Rounds an f64 to an f32.
 pub fn narrowed(x: f64) -> f32
     ensures { λ r. ⌜ Narrows x r ⌝ }
 {
@@ -256,20 +252,29 @@ pub fn narrowed(x: f64) -> f32
     f32::from_bits(n)
 }
 
-pub fn square_root(x: f64) -> f64
+// Takes the square root. The table is lent.
+pub fn square_root_with(guesses: &[u16], x: f64) -> f64
+    requires { ⌜ Table (now guesses) ⌝ }
     ensures { λ r. ⌜ Roots binary64 x r ⌝ }
 {
     if x != x {
         return 0.0 / 0.0;
     }
-    let n = root_bits(f64::to_bits(x));
+    let n = root_bits_with(guesses, f64::to_bits(x));
     if n == NO_NUMBER {
         return 0.0 / 0.0;
     }
     f64::from_bits(n)
 }
 
-// Neither a NaN nor an infinity: what is finite, less itself, is 0.
+pub fn square_root(x: f64) -> f64
+    ensures { λ r. ⌜ Roots binary64 x r ⌝ }
+{
+    let guesses = first_guesses();
+    square_root_with(&guesses, x)
+}
+
+// Tells whether x is neither a NaN nor an infinity: a finite number less itself is 0.
 pub fn is_finite(x: f64) -> bool
     ensures { λ r. ⌜ r ≡ finite x ⌝ }
 {
@@ -282,12 +287,12 @@ pub fn is_finite32(x: f32) -> bool
     x - x == 0.0
 }
 
-// The absolute value: the pattern with its sign clear. A test of the sign would be guessed wrong for every other sample.
+// Gives the absolute value.
 pub fn magnitude(x: f64) -> f64
     ensures { λ r. ⌜ r ≡ Functions.magnitude x ⌝ }
 {
     if x != x {
         return x;
     }
-    f64::from_bits(f64::to_bits(x) % 0x8000_0000_0000_0000)
+    bits::unsigned(x)
 }

@@ -12,16 +12,16 @@ left : (s h w n : ℕ) → s + h ≡ n + w → s + h - w ≡ n
 left s h w n e = omega arith
 
 mul-n : tie.Need-mul-n
-mul-n c = omega (arith, part-le (c .args .m) (c .args .e))
+mul-n c = omega (arith, part-le (c .before .args .m) (c .before .args .e))
 
 add-n : tie.Need-add-n
-add-n c = omega (arith, part-le (c .args .m) (c .args .e))
+add-n c = omega (arith, part-le (c .before .args .m) (c .before .args .e))
 
-half-root-requires : tie.Need-half-root-requires
-half-root-requires c κs = (omega arith, omega (arith, part-le (c .args .m) (c .args .e)))
+whole-root-requires : tie.Need-whole-root-requires
+whole-root-requires c κs = (omega arith, omega (arith, part-le (c .before .args .m) (c .before .args .e)), c .before .pre .3)
 
 widen-requires : tie.Need-widen-requires
-widen-requires c κs = record { at-least = omega arith; below = omega (arith, part-le (c .before .args .m) (c .before .args .e)); is = c .half-root .ensures }
+widen-requires c κs = record { at-least = omega arith; below = omega (arith, part-le (c .before .before .args .m) (c .before .before .args .e)); is = c .whole-root .ensures }
 
 mark-requires : tie.Need-mark-requires
 mark-requires c κs = search needs
@@ -38,8 +38,8 @@ add-result c = omega (arith, c .to-even .ensures, quarter-le (c .before .mark .r
 returns : tie.Need-returns
 returns c =
     let w = c .before .before .widen in
-    let m = c .before .before .before .before .args .m in
-    let e = c .before .before .before .before .args .e in
+    let m = c .before .before .before .before .before .args .m in
+    let e = c .before .before .before .before .before .args .e in
     let n : w .result .s * w .result .s + w .result .have - w .result .want ≡ m * 2 ^ (e % 2) * 2 ^ 54 = left (w .result .s * w .result .s) (w .result .have) (w .result .want) ((m + m * (e % 2)) * 2 ^ 54) (w .ensures .0) ∙ ap (λ (y : ℕ). y * 2 ^ 54) (once-or-twice m e) in
     record {
       word = c .before .mark .result;
@@ -53,7 +53,7 @@ root-scaled-spec =
     (tie.spec
     mul-n
     add-n
-    half-root-requires
+    whole-root-requires
     widen-requires
     mark-requires
     mul-result

@@ -6,17 +6,17 @@ use borrow.Author.Needs.{needs}
 use Rattle.floats_face.proofs.tmv_is_finite.Statement.{statement}
 use Rattle.floats_face.proofs.tmv_is_finite.Tie as tie
 
-float-requires : tie.Need-float-requires
-float-requires c κs = search needs
+float64-requires : tie.Need-float64-requires
+float64-requires c κs = search needs
 
 is-finite-requires : tie.Need-is-finite-requires
 is-finite-requires c κs = search needs
 
 returns : tie.Need-returns
-returns c = sym (pick-true _ _ _ (ap finite (sym (c .before .before .float .ensures)) ∙ sym (c .before .is-finite .ensures) ∙ c .if1 .taken))
+returns c = sym (pick-true _ _ _ (ap finite (sym (c .before .before .float64 .ensures)) ∙ sym (c .before .is-finite .ensures) ∙ c .if1 .taken))
 
 returns-2 : tie.Need-returns-2
-returns-2 c = sym (pick-false _ _ _ (ap finite (sym (c .before .before .float .ensures)) ∙ sym (c .before .is-finite .ensures) ∙ c .if1 .left))
+returns-2 c = sym (pick-false _ _ _ (ap finite (sym (c .before .before .float64 .ensures)) ∙ sym (c .before .is-finite .ensures) ∙ c .if1 .left))
 
 pub tmv-is-finite-spec : {M : Type 1} → statement M
-tmv-is-finite-spec = tie.close (tie.spec float-requires is-finite-requires returns returns-2)
+tmv-is-finite-spec = tie.close (tie.spec float64-requires is-finite-requires returns returns-2)

@@ -1,0 +1,3 @@
+-- Laws of the table's entries and of Newton's steps.
+pub mod Entries
+pub mod Steps

@@ -1,0 +1,2 @@
+-- The rule of the table of first guesses.
+pub mod Guesses
