@@ -1,4 +1,4 @@
-//! Document 01's numbers: what is allowed, and what follows from rate, ceiling and span. Written from the paper alone.
+//! The scope paper's numbers: what is allowed, and what follows from rate, ceiling and span. Written from the paper alone.
 
 pub const LIMIT: u64 = 1 << 62;
 const SLACK: u64 = 4000;
@@ -10,6 +10,8 @@ pub const NOT_FINITE: u32 = 4;
 pub const TOO_LARGE: u32 = 5;
 pub const FRAME_WAITS: u32 = 6;
 pub const NO_FULL_FRAME: u32 = 7;
+/// Request f.
+pub const INCONSISTENT_RECORD: u32 = 9;
 
 /// Nothing stands against the call, or the number that it is to be refused with.
 pub type Judged = Result<(), u32>;

@@ -16,7 +16,7 @@ pub fn cycle() {
             (kind, random.one_of(&[4_800, 4_700, 4_500, 4_480, 9_000]))
         })
         .collect();
-    let mut state = [0; 14];
+    let mut state = [0; 15];
     assert_eq!(face::tracker::new(&mut state, 48_000), 16);
     let mut values = [0];
     let mut original = Tracker::new(48_000);

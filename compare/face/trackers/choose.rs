@@ -16,6 +16,7 @@ pub fn call(random: &mut Random, state: &[u64], alignment: u64) -> Call {
         2 => Call::JumpCycles,
         3 => Call::Suspect,
         4 => Call::Quiescent,
+        5 => Call::LongestRun,
         _ => Call::Cycle(cycle(random, state, alignment)),
     }
 }

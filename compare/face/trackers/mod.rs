@@ -18,6 +18,8 @@ use world::World;
 
 pub struct Follower {
     original: Tracker,
+    /// The original keeps no largest run: the running maximum of its `jump_cycles()`.
+    largest: u32,
     alignment: u64,
 }
 
@@ -32,6 +34,7 @@ fn face(w: &mut World, call: &Call) -> u32 {
         }) => face::on_cycle(state, alignment, kind, delay, values),
         Call::Discontinuity => face::on_discontinuity(state),
         Call::JumpCycles => face::jump_cycles(state, values),
+        Call::LongestRun => face::longest_run(state, values),
         Call::Suspect => face::suspect(state),
         Call::Quiescent => face::quiescent(state),
     }
@@ -54,16 +57,25 @@ impl Subject for Follower {
             unconfident_cycles: state[12] as u32,
             suspect: state[13] == 1,
         });
+        self.largest = state[14] as u32;
     }
 
     fn original(&mut self, _: &World, call: &Call) -> (u32, Vec<u64>) {
         let tracker = &mut self.original;
         let flag = |yes: bool| (16 + yes as u32, vec![]);
         match call {
-            Call::New(rate) => *tracker = Tracker::new(*rate),
+            Call::New(rate) => {
+                *tracker = Tracker::new(*rate);
+                self.largest = 0;
+            }
             Call::Discontinuity => tracker.on_discontinuity(),
-            Call::Cycle(cycle) => return verdict(tracker, cycle),
+            Call::Cycle(cycle) => {
+                let answer = verdict(tracker, cycle);
+                self.largest = self.largest.max(tracker.jump_cycles());
+                return answer;
+            }
             Call::JumpCycles => return (16, vec![tracker.jump_cycles() as u64]),
+            Call::LongestRun => return (16, vec![self.largest as u64]),
             Call::Suspect => return flag(tracker.fields().suspect),
             Call::Quiescent => return flag(tracker.quiescent()),
         }
@@ -86,6 +98,7 @@ impl Subject for Follower {
         words[11] = fields.jump_cycles as u64;
         words[12] = fields.unconfident_cycles as u64;
         words[13] = fields.suspect as u64;
+        words[14] = self.largest as u64;
         words
     }
 
@@ -120,8 +133,8 @@ impl Walker for Follower {
     const DAMAGE: u64 = 6;
     const CASES: &'static [Case<Call>] = &[
         Case {
-            name: "a making for rate 7,999 is lent 13 words",
-            changes: &[lend(List::State, 13)],
+            name: "a making for rate 7,999 is lent 14 words",
+            changes: &[lend(List::State, 14)],
             call: Call::New(7_999),
             answer: (1, &[]),
         },
@@ -131,11 +144,50 @@ impl Walker for Follower {
             call: Call::JumpCycles,
             answer: (1, &[]),
         },
+        Case {
+            name: "a largest run below the current one, and an alignment of 2^62",
+            changes: &[set(List::State, 11, 1)],
+            call: Call::Cycle(Cycle {
+                alignment: LIMIT,
+                kind: 0,
+                delay: 0,
+            }),
+            answer: (9, &[]),
+        },
+        Case {
+            name: "a largest run below the current one, and a cycle of kind 3",
+            changes: &[set(List::State, 11, 1)],
+            call: Call::Cycle(Cycle {
+                alignment: 0,
+                kind: 3,
+                delay: 0,
+            }),
+            answer: (3, &[]),
+        },
+        Case {
+            name: "whether a tracker is quiescent whose largest run is below the current one",
+            changes: &[set(List::State, 11, 7), set(List::State, 14, 6)],
+            call: Call::Quiescent,
+            answer: (9, &[]),
+        },
+        Case {
+            name: "the largest run of a tracker whose current one is as large",
+            changes: &[set(List::State, 11, 7), set(List::State, 14, 7)],
+            call: Call::LongestRun,
+            answer: (16, &[7]),
+        },
+        Case {
+            name: "a largest run of 2^32, above the current one",
+            changes: &[set(List::State, 14, 1 << 32)],
+            call: Call::LongestRun,
+            answer: (3, &[]),
+        },
     ];
 
     fn new() -> (Follower, World) {
         let follower = Follower {
             original: Tracker::new(8_000),
+            largest: 0,
             alignment: 0,
         };
         (follower, World::new(8_000))

@@ -14,6 +14,7 @@ pub enum Call {
     Cycle(Cycle),
     Discontinuity,
     JumpCycles,
+    LongestRun,
     Suspect,
     Quiescent,
 }
@@ -35,6 +36,7 @@ impl shape::Call for Call {
             Call::Cycle(_) => ("on_cycle", &[State, Values], 1),
             Call::Discontinuity => ("on_discontinuity", &[State], 0),
             Call::JumpCycles => ("jump_cycles", &[State, Values], 1),
+            Call::LongestRun => ("longest_run", &[State, Values], 1),
             Call::Suspect => ("suspect", &[State], 0),
             Call::Quiescent => ("quiescent", &[State], 0),
         };

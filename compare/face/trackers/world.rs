@@ -5,7 +5,7 @@ use crate::lent::Lent;
 use crate::lists::lists;
 use crate::rules::bands;
 
-pub const WORDS: usize = 14;
+pub const WORDS: usize = 15;
 
 pub struct World {
     pub state: Lent<u64>,
@@ -15,7 +15,7 @@ pub struct World {
 lists!(World, Call, List: State state, Values values);
 
 impl World {
-    /// A new tracker, as document 01 has it.
+    /// A new tracker, as the scope paper has it, and a largest run of 0.
     pub fn new(rate: u64) -> World {
         let mut state = [0; WORDS];
         state[0] = rate;

@@ -81,6 +81,8 @@ struct Walk {
     tracker: Tracker,
     alignment: u64,
     mood: Mood,
+    /// The running maximum of `jump_cycles()`, from the making or from a made-up state on.
+    largest: u32,
 }
 
 impl Walk {
@@ -90,6 +92,7 @@ impl Walk {
             tracker: Tracker::new(rate),
             alignment: 0,
             mood: Mood::Mixed,
+            largest: 0,
         }
     }
 
@@ -108,6 +111,7 @@ impl Walk {
             match random.below(60) {
                 0 => {
                     self.tracker.set_fields(made_up(random));
+                    self.largest = 0;
                     self.write(SET, 0, None, out);
                 }
                 1 => {
@@ -191,7 +195,8 @@ impl Walk {
         delay.min(LIMIT - 1)
     }
 
-    fn write(&self, op: u8, delay: u64, verdict: Option<TrackVerdict>, out: &mut Record) {
+    fn write(&mut self, op: u8, delay: u64, verdict: Option<TrackVerdict>, out: &mut Record) {
+        self.largest = self.largest.max(self.tracker.jump_cycles());
         let fields = self.tracker.fields();
         let (verdict, trigger, target) = numbers(verdict);
         let flags = fields.pending.is_some() as u8
@@ -207,7 +212,7 @@ impl Walk {
         out.u64(fields.pending.unwrap_or(0) as u64);
         out.u64(fields.previous.unwrap_or(0) as u64);
         out.u32(fields.edge_cycles).u32(fields.jump_cycles);
-        out.u32(fields.unconfident_cycles).u32(0);
+        out.u32(fields.unconfident_cycles).u32(self.largest);
     }
 }
 

@@ -1,5 +1,6 @@
 -- Every public call: its contract admits one answer, with its tracker.
-use Rattle.answers.proofs.Once.{Determined, once}
+use Rattle.answers.specs.Once.{Determined}
+use Rattle.answers.proofs.Once.{once}
 use Rattle.tracker.proofs.Tracker.new.Kinds as new-kinds
 use Rattle.tracker.proofs.Tracker.new.Reads as new-reads
 use Rattle.tracker.proofs.Tracker.on_cycle.Kinds as on-cycle-kinds
@@ -8,6 +9,8 @@ use Rattle.tracker.proofs.Tracker.on_discontinuity.Kinds as on-disconti
 use Rattle.tracker.proofs.Tracker.on_discontinuity.Reads as on-discontinuity-reads
 use Rattle.tracker.proofs.Tracker.jump_cycles.Kinds as jump-cycles-kinds
 use Rattle.tracker.proofs.Tracker.jump_cycles.Reads as jump-cycles-reads
+use Rattle.tracker.proofs.Tracker.longest_run.Kinds as longest-run-kinds
+use Rattle.tracker.proofs.Tracker.longest_run.Reads as longest-run-reads
 use Rattle.tracker.proofs.Tracker.suspect.Kinds as suspect-kinds
 use Rattle.tracker.proofs.Tracker.suspect.Reads as suspect-reads
 use Rattle.tracker.proofs.Tracker.quiescent.Kinds as quiescent-kinds
@@ -24,6 +27,9 @@ on-discontinuity-once κs a v w x y p q = once p q
 
 pub jump-cycles-once : Determined 0 jump-cycles-kinds.ps jump-cycles-kinds.r jump-cycles-reads.Post
 jump-cycles-once κs a v w x y p q = once p q
+
+pub longest-run-once : Determined 0 longest-run-kinds.ps longest-run-kinds.r longest-run-reads.Post
+longest-run-once κs a v w x y p q = once p q
 
 pub suspect-once : Determined 0 suspect-kinds.ps suspect-kinds.r suspect-reads.Post
 suspect-once κs a v w x y p q = once p q

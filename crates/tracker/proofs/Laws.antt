@@ -1,15 +1,18 @@
 -- The laws of a verdict: a refusal changes nothing, a move never lands past its candidate, and a verdict to reacquire leaves what its trigger says.
-use Prim.Native.Nat.{ℕ, _-_, _≤_}
+use Prim.Native.Nat.{ℕ, _-_, _≤_, max}
 use mathlib.Core.Path.{_≡_, refl, sym, subst, _∙_}
 use mathlib.Core.Bool.{Bool, true, false}
 use mathlib.Core.List.{List}
 use native.Mathlib.Omega.{arith}
 use lib.Dec.{ltb, leb, eqb}
+use borrow.Author.Tests.{eqb-true}
 use Rattle.answers.specs.Numbers.{nextCount}
 use Rattle.answers.specs.Pick.{pick, pick-true, pick-false, pick-all, pick-case}
 use Rattle.answers.specs.Refusals.{none}
+use Rattle.answers.specs.Told.{refused, changeTold}
 use Rattle.units.specs.declared.Samples.{Samples}
 use Rattle.units.specs.Units.{samples}
+use Rattle.tracker.specs.declared.Delay.{Delay}
 use Rattle.tracker.specs.declared.Delay.the-variants.{Nothing, At}
 use Rattle.tracker.specs.declared.Outcome.{Outcome}
 use Rattle.tracker.specs.declared.Outcome.the-variants.{Candidate, Unconfident}
@@ -22,9 +25,10 @@ use Rattle.tracker.specs.declared.Changed.{Changed}
 use Rattle.tracker.specs.declared.Cycled.{Cycled}
 use Rattle.tracker.specs.Tracker.{present, stateRefusal, changed, evidence, seamed}
 use Rattle.tracker.specs.Cycle.{atLimit, unconfidentCycle, edgeCycle, jumped, outsideBands, confirmed, landing, contradicts, withJumps, escalated, outsideCycle, interiorCycle, judged, cycleRefusal, cycled}
-use Rattle.tracker.specs.Told.{refused, moveTo, triggerNumber, reacquire, verdictTold, answerTold}
+use Rattle.tracker.specs.Told.{moveTo, triggerNumber, reacquire, verdictTold}
 use Rattle.tracker.specs.Rules.{Moves, Unsure, Leaves}
-use Rattle.tracker.proofs.Faithful.{trigger-told}
+use Rattle.tracker.proofs.Sound.{accepted-cycle}
+use Rattle.tracker.proofs.Faithful.{trigger-told, no-hold}
 
 -- what tells one number tells no other: told apart by `cc`
 abbrev Clash : Type 0
@@ -79,10 +83,10 @@ refused-cycle t a o n =
     (λ e. absurd (judged-says (λ (v : Verdict). verdictTold v ≡ refused n → ⊥) (λ e. clash (cc)) (λ w e. clash (cc)) t a o (λ d to i h e. clash (cc)) e))
     (λ e. (cc, refl))
 
-pub refused-seam : (t : Tracker) (n : ℕ) → answerTold (seamed t .answer) ≡ refused n → (stateRefusal t ≡ n) × (seamed t .tracker ≡ t)
+pub refused-seam : (t : Tracker) (n : ℕ) → changeTold (seamed t .answer) ≡ refused n → (stateRefusal t ≡ n) × (seamed t .tracker ≡ t)
 unfolding changed
 refused-seam t n =
-    pick-all (λ (r : Changed). answerTold (r .answer) ≡ refused n → (stateRefusal t ≡ n) × (r .tracker ≡ t)) (eqb (stateRefusal t) none) _ _ (λ e. clash (cc)) (λ e. (cc, refl))
+    pick-all (λ (r : Changed). changeTold (r .answer) ≡ refused n → (stateRefusal t ≡ n) × (r .tracker ≡ t)) (eqb (stateRefusal t) none) _ _ (λ e. clash (cc)) (λ e. (cc, refl))
 
 -- ---- verdicts to reacquire
 
@@ -91,7 +95,7 @@ limit-tells : (run most : ℕ) (w v : Trigger) → verdictTold (atLimit run most
 limit-tells run most w v =
     pick-all (λ (x : Verdict). verdictTold x ≡ reacquire v → w ≡ v) (leb most run) _ _
     (λ e. let h : triggerNumber w ≡ triggerNumber v = cc in trigger-told w v h)
-    (λ e. clash (cc))
+    (λ e. absurd (no-hold v (sym e)))
 
 -- only the contradiction run is at its limit, and only it has changed
 abbrev Escalates : Trigger → Tracker → Cycled → Type 0
@@ -100,12 +104,18 @@ Escalates v next r = verdictTold (r .verdict) ≡ reacquire v → (Jump ≡ v) �
 escalated-leaves : (v : Trigger) (t : Tracker) (c h : Bool) → Escalates v (withJumps t (nextCount (t .jumps))) (escalated t c h)
 unfolding escalated
 escalated-leaves v t c h =
-    pick-all (Escalates v (withJumps t (nextCount (t .jumps)))) c _ _ (λ e. (limit-tells (nextCount (t .jumps)) 4 Jump v e, refl)) (λ e. clash (cc))
+    pick-all (Escalates v (withJumps t (nextCount (t .jumps)))) c _ _ (λ e. (limit-tells (nextCount (t .jumps)) 4 Jump v e, refl)) (λ e. absurd (no-hold v (sym e)))
 
-outside-leaves : (v : Trigger) (t : Tracker) (a : ℕ) (d : Samples) → Escalates v (evidence t (At d) (At d) 0 (nextCount (t .jumps)) 0 (t .suspect)) (outsideCycle t a (d .0))
+-- a run that is set twice, first to what it is, leaves no other tracker than one that is set once
+set-once : (t : Tracker) (p q : Delay) (e u : ℕ) (b : Bool) (run : ℕ) → t .jumps ≤ t .largest → withJumps (evidence t p q e (t .jumps) u b) run ≡ evidence t p q e run u b
+set-once t p q e u b run h = let k : max (t .largest) (t .jumps) ≡ t .largest = omega (arith, h) in rw k refl
+
+outside-leaves : (v : Trigger) (t : Tracker) (a : ℕ) (d : Samples) → t .jumps ≤ t .largest → Escalates v (evidence t (At d) (At d) 0 (nextCount (t .jumps)) 0 (t .suspect)) (outsideCycle t a (d .0))
 unfolding outsideCycle
-outside-leaves v t a d =
-    pick-all (Escalates v (evidence t (At d) (At d) 0 (nextCount (t .jumps)) 0 (t .suspect))) (confirmed t (d .0)) _ _ (λ e. clash (cc)) (escalated-leaves v _ _ _)
+outside-leaves v t a d h =
+    pick-all (Escalates v (evidence t (At d) (At d) 0 (nextCount (t .jumps)) 0 (t .suspect))) (confirmed t (d .0)) _ _
+    (λ e. clash (cc))
+    (λ e. let k = escalated-leaves v _ _ _ e in (k .0, k .1 ∙ set-once t (At d) (At d) 0 0 (t .suspect) _ h))
 
 abbrev after : Tracker → ℕ → Samples → Tracker
 after t a d =
@@ -113,32 +123,33 @@ after t a d =
     (evidence t (At d) (At d) 0 (nextCount (t .jumps)) 0 (t .suspect))
     (evidence t Nothing (At d) 0 (nextCount (t .jumps)) 0 false)
 
-interior-leaves : (v : Trigger) (t : Tracker) (a : ℕ) (d : Samples) → Escalates v (after t a d) (interiorCycle t a (d .0))
+interior-leaves : (v : Trigger) (t : Tracker) (a : ℕ) (d : Samples) → t .jumps ≤ t .largest → Escalates v (after t a d) (interiorCycle t a (d .0))
 unfolding interiorCycle
-interior-leaves v t a d =
+interior-leaves v t a d l =
     pick-case (Escalates v (after t a d)) (outsideBands t a (d .0)) _ _
-    (λ h e. let k = outside-leaves v t a d e in (k .0, k .1 ∙ sym (pick-true _ _ _ h)))
-    (λ h e. let k = escalated-leaves v _ _ _ e in (k .0, k .1 ∙ sym (pick-false _ _ _ h)))
+    (λ h e. let k = outside-leaves v t a d l e in (k .0, k .1 ∙ sym (pick-true _ _ _ h)))
+    (λ h e. let k = escalated-leaves v _ _ _ e in (k .0, (k .1 ∙ set-once t Nothing (At d) 0 0 false _ l) ∙ sym (pick-false _ _ _ h)))
 
 abbrev Reports : Trigger → Tracker → Samples → Outcome → Cycled → Type 0
 Reports v t a o r = verdictTold (r .verdict) ≡ reacquire v → Leaves v t a o (r .tracker)
 
-judged-leaves : (v : Trigger) (t : Tracker) (a : Samples) (o : Outcome) → Reports v t a o (judged t a o)
+judged-leaves : (v : Trigger) (t : Tracker) (a : Samples) (o : Outcome) → t .jumps ≤ t .largest → Reports v t a o (judged t a o)
 unfolding judged unconfidentCycle edgeCycle pick
-judged-leaves v t a Unconfident e =
+judged-leaves v t a Unconfident l e =
     let counted : Unsure t Unconfident (unconfidentCycle t .tracker) = record { unconfident = refl; leaves = refl } in
     let left : Trigger → Type 0 = λ w. Leaves w t a Unconfident (unconfidentCycle t .tracker) in
     pick-case (λ (x : Verdict). verdictTold x ≡ reacquire v → left v) (t .suspect) _ _
     (λ h e. subst left (limit-tells (nextCount (t .unconfident)) 4 Seam v e) (h, counted))
     (λ h e. subst left (limit-tells (nextCount (t .unconfident)) 8 Lost v e) (h, counted))
     e
-judged-leaves v t a (Candidate d true) e =
-    let k = interior-leaves v t (a .0) d e in
+judged-leaves v t a (Candidate d true) l e =
+    let k = interior-leaves v t (a .0) d l e in
     subst (λ (w : Trigger). Leaves w t a (Candidate d true) (interiorCycle t (a .0) (d .0) .tracker)) (k .0) (record { delay = d; interior = refl; leaves = k .1 })
-judged-leaves v t a (Candidate d false) e =
+judged-leaves v t a (Candidate d false) l e =
     subst (λ (w : Trigger). Leaves w t a (Candidate d false) (edgeCycle t .tracker)) (limit-tells (nextCount (t .edges)) 3 Edge v e) (record { delay = d; edge = refl; leaves = refl })
 
 -- a verdict to reacquire leaves what its trigger says, and so nothing more is changed
 pub reacquires : (v : Trigger) (t : Tracker) (a : Samples) (o : Outcome) → verdictTold (cycled t a o .verdict) ≡ reacquire v → Leaves v t a o (cycled t a o .tracker)
 unfolding cycled
-reacquires v t a o = pick-all (Reports v t a o) (eqb (cycleRefusal t a o) none) _ _ (judged-leaves v t a o) (λ e. clash (cc))
+reacquires v t a o =
+    pick-case (Reports v t a o) (eqb (cycleRefusal t a o) none) _ _ (λ h. judged-leaves v t a o (accepted-cycle t a o (eqb-true _ _ h) .largest)) (λ h e. clash (cc))

@@ -14,31 +14,32 @@ use Rattle.tracker.specs.declared.Tracker.{Tracker}
 use Rattle.tracker.specs.Tracker.{belowLimit, bandsOf, sameBands, evidence}
 use Rattle.tracker.specs.Cycle.{outsideBands}
 
--- the rules of a tracker's state
+-- The rules of a tracker's state.
 pub record Sound (t : Tracker) : Type 0 where
   pub rate : allowedRate (t .rate) ≡ true
   pub bands : sameBands (t .bands) (bandsOf (t .rate)) ≡ true
   pub pending : belowLimit (t .pending) ≡ true
   pub prev : belowLimit (t .prev) ≡ true
+  pub largest : t .jumps ≤ t .largest
 
--- a move comes of an interior candidate, and never lands past it
+-- A move comes from an interior candidate, and never lands past it.
 pub record Moves (outcome : Outcome) (to : ℕ) : Type 0 where
   pub delay : Samples
   pub interior : outcome ≡ Candidate delay true
   pub early : to ≤ delay .0
 
--- an unconfident cycle changed its run, and nothing else
+-- An unconfident cycle changed its run, and nothing else.
 pub record Unsure (t : Tracker) (outcome : Outcome) (next : Tracker) : Type 0 where
   pub unconfident : outcome ≡ Unconfident
   pub leaves : next ≡ evidence t (t .pending) (t .prev) (t .edges) (t .jumps) (nextCount (t .unconfident)) (t .suspect)
 
--- an edge candidate counted, and cleared what it cannot be compared with
+-- An edge candidate counted, and cleared what it cannot be compared with.
 pub record Pinned (t : Tracker) (outcome : Outcome) (next : Tracker) : Type 0 where
   pub delay : Samples
   pub edge : outcome ≡ Candidate delay false
   pub leaves : next ≡ evidence t Nothing Nothing (nextCount (t .edges)) (t .jumps) 0 (t .suspect)
 
--- a contradicting candidate counted and is the previous one now; outside the bands it also waits, inside them suspicion is lifted
+-- A contradicting candidate counted and is now the previous one. Outside the bands it is also pending; inside them it lifts suspicion.
 pub record Contradicted (t : Tracker) (alignment : Samples) (outcome : Outcome) (next : Tracker) : Type 0 where
   pub delay : Samples
   pub interior : outcome ≡ Candidate delay true
@@ -46,7 +47,7 @@ pub record Contradicted (t : Tracker) (alignment : Samples) (outcome : Outcome) 
       (evidence t (At delay) (At delay) 0 (nextCount (t .jumps)) 0 (t .suspect))
       (evidence t Nothing (At delay) 0 (nextCount (t .jumps)) 0 false)
 
--- what a verdict to reacquire leaves, by its trigger: it clears nothing of its own
+-- Says what a verdict to reacquire leaves, by its trigger. The verdict itself clears nothing.
 abbrev pub Leaves : Trigger → Tracker → Samples → Outcome → Tracker → Type 0
 Leaves Edge t alignment outcome next = Pinned t outcome next
 Leaves Lost t alignment outcome next = (t .suspect ≡ false) × Unsure t outcome next

@@ -1,10 +1,13 @@
-// The delay tracker: it follows a locked delay and says when the lock has gone bad.
-// The tracker goes in by value with each call and comes back. No public call has a `requires`: it refuses by number, and then
+// The delay tracker follows a locked delay and says when the lock has gone bad.
+// The tracker goes in by value with each call and comes back by value. No public call has a `requires`: a bad call is refused by number and
 // hands back the tracker that it was given. Each contract is one equation with a definition of specs/.
 ghost use mathlib.Core.Path.{_≡_};
-ghost use Prim.Native.Nat.{_≤_};
-ghost use Rattle.tracker.specs.Tracker.{present, belowLimit, perMs, bandsOf, sameBands, fresh, made, stateRefusal, changed, counted, flagged, evidence, seamed, jumpCycles, suspected, unfinished, quiescent};
-ghost use Rattle.tracker.specs.Cycle.{outsideBands, jumped, contradicts, confirmed, landing, unconfidentCycle, edgeCycle, escalated, outsideCycle, interiorCycle, judged, cycleRefusal, cycled};
+ghost use Prim.Native.Nat.{_≤_, max};
+ghost use Rattle.tracker.specs.Tracker.{present, belowLimit, perMs, bandsOf, sameBands, fresh, made, stateRefusal, changed, evidence, seamed, jumpCycles, longestRun, suspected, unfinished, quiescent};
+ghost use Rattle.tracker.specs.Cycle.{outsideBands, jumped, contradicts, confirmed, landing, unconfidentCycle, edgeCycle, withJumps, escalated, outsideCycle, interiorCycle, judged, cycleRefusal, cycled};
+use answers::Change;
+use answers::Count;
+use answers::Flag;
 use units::Samples;
 
 // A delay, or none.
@@ -34,21 +37,6 @@ pub enum Verdict {
     Reacquire(Trigger),
 }
 
-pub enum Answer {
-    Refused(u8),
-    Done,
-}
-
-pub enum Count {
-    Refused(u8),
-    Is(u32),
-}
-
-pub enum Flag {
-    Refused(u8),
-    Is(bool),
-}
-
 // The tracker's distances in samples. They follow from the rate.
 pub struct Bands {
     pub late: u64,
@@ -65,17 +53,19 @@ pub struct Tracker {
     pub pending: Delay,
     // The previous interior candidate.
     pub prev: Delay,
-    // Runs of cycles: pinned to an edge, contradicting, unconfident.
+    // Runs of edge, contradicting and unconfident cycles.
     pub edges: u32,
     pub jumps: u32,
     pub unconfident: u32,
     // Whether the lock has only just survived a discontinuity.
     pub suspect: bool,
+    // The largest run of contradicting cycles since the making.
+    pub largest: u32,
 }
 
 pub struct Changed {
     pub tracker: Tracker,
-    pub answer: Answer,
+    pub answer: Change,
 }
 
 pub struct Cycled {
@@ -103,30 +93,6 @@ impl Delay {
     }
 }
 
-impl Count {
-    // The answer of a query that counts, where 0 is no refusal.
-    fn of(refusal: u8, n: u32) -> Count
-        ensures { λ r. ⌜ r ≡ counted refusal n ⌝ }
-    {
-        if refusal != 0 {
-            return Count::Refused(refusal);
-        }
-        Count::Is(n)
-    }
-}
-
-impl Flag {
-    // The answer of a query that says yes or no, where 0 is no refusal.
-    fn of(refusal: u8, is: bool) -> Flag
-        ensures { λ r. ⌜ r ≡ flagged refusal is ⌝ }
-    {
-        if refusal != 0 {
-            return Flag::Refused(refusal);
-        }
-        Flag::Is(is)
-    }
-}
-
 impl Bands {
     fn same(self, other: Bands) -> bool
         ensures { λ r. ⌜ r ≡ sameBands self other ⌝ }
@@ -148,21 +114,21 @@ impl Bands {
 }
 
 impl Tracker {
-    // How far earlier, and how far later, than the alignment a candidate is still inside the bands, in milliseconds.
+    // A candidate is inside the bands if it is at most this many milliseconds earlier, or later, than the alignment.
     pub const MOVE_LATE_MS: u64 = 4;
 
     pub const MOVE_EARLY_MS: u64 = 48;
 
-    // How closely two candidates agree to confirm a move.
+    // Two candidates confirm a move if they are at most this far apart.
     pub const MOVE_AGREE_MS: u64 = 24;
 
-    // How far apart two candidates are unrelated.
+    // Two candidates are unrelated if they are farther apart than this.
     pub const JUMP_APART_MS: u64 = 100;
 
-    // The extra lead of a move to earlier.
+    // A move to an earlier delay gets this much extra lead.
     pub const MOVE_LATE_LEAD_MS: u64 = 8;
 
-    // Cycles in a run before its trigger fires.
+    // A trigger fires when its run reaches this many cycles.
     pub const EDGE_CYCLES: u32 = 3;
 
     pub const JUMP_CYCLES: u32 = 4;
@@ -171,7 +137,7 @@ impl Tracker {
 
     pub const SUSPECT_UNCONFIDENT_CYCLES: u32 = 4;
 
-    // Milliseconds in samples, at least 1.
+    // Turns milliseconds into samples, at least 1.
     fn per_ms(ms: u64, rate: u32) -> u64
         requires { ⌜ ms ≤ 1000 ⌝ }
         ensures { λ r. ⌜ r ≡ perMs ms rate ⌝ }
@@ -204,26 +170,27 @@ impl Tracker {
             jumps: 0,
             unconfident: 0,
             suspect: false,
+            largest: 0,
         }
     }
 
-    // A tracker for a freshly promoted lock at `rate`; a refused making hands out the one for rate 8,000.
+    // Makes a tracker for a new lock at `rate`. A refused making hands out the one for rate 8,000.
     pub fn new(rate: u32) -> Changed
         ensures { λ r. ⌜ r ≡ made rate ⌝ }
     {
         if answers::allowed_rate(rate) {
             return Changed {
                 tracker: Tracker::fresh(rate),
-                answer: Answer::Done,
+                answer: Change::Done,
             };
         }
         Changed {
             tracker: Tracker::fresh(8000),
-            answer: Answer::Refused(answers::OUTSIDE_TABLE),
+            answer: Change::Refused(answers::OUTSIDE_TABLE),
         }
     }
 
-    // The number with which every call refuses this tracker, 0 for none.
+    // Gives the number with which every call refuses this tracker, or 0 for none.
     fn refusal(self) -> u8
         ensures { λ r. ⌜ r ≡ stateRefusal self ⌝ }
     {
@@ -243,11 +210,20 @@ impl Tracker {
         if !prev.below_limit() {
             return answers::BROKEN_STATE;
         }
+        if self.jumps > self.largest {
+            return answers::INCONSISTENT_RECORD;
+        }
         0
     }
 
-    // The same tracker with other evidence.
-    fn evidence(
+    fn longer(run: u32, other: u32) -> u32
+        ensures { λ r. ⌜ r ≡ max run other ⌝ }
+    {
+        if run < other { other } else { run }
+    }
+
+    // Gives the same tracker other evidence. Every tracker but a new one is made here, so that no contradicting run is missed.
+    pub fn evidence(
         self,
         pending: Delay,
         prev: Delay,
@@ -268,26 +244,42 @@ impl Tracker {
             jumps,
             unconfident,
             suspect,
+            largest: Tracker::longer(self.largest, jumps),
         }
     }
 
-    // The answer of a call that changes the tracker to `next`: a refused one hands this tracker back.
+    fn with_jumps(self, run: u32) -> Tracker
+        ensures { λ r. ⌜ r ≡ withJumps self run ⌝ }
+    {
+        let pending = self.pending;
+        let prev = self.prev;
+        self.evidence(
+            pending,
+            prev,
+            self.edges,
+            run,
+            self.unconfident,
+            self.suspect,
+        )
+    }
+
+    // Answers a call that changes the tracker to `next`; if it is refused, hands this tracker back.
     fn changed(self, refusal: u8, next: Tracker) -> Changed
         ensures { λ r. ⌜ r ≡ changed self refusal next ⌝ }
     {
         if refusal != 0 {
             return Changed {
                 tracker: self,
-                answer: Answer::Refused(refusal),
+                answer: Change::Refused(refusal),
             };
         }
         Changed {
             tracker: next,
-            answer: Answer::Done,
+            answer: Change::Done,
         }
     }
 
-    // A stream discontinuity: the lock survives, suspect, and the evidence from before the seam is discarded.
+    // Takes note of a discontinuity: the lock survives, suspect, and the evidence from before the seam is discarded.
     pub fn on_discontinuity(self) -> Changed
         ensures { λ r. ⌜ r ≡ seamed self ⌝ }
     {
@@ -295,21 +287,28 @@ impl Tracker {
         self.changed(self.refusal(), next)
     }
 
-    // The standing run of contradicting cycles.
+    // Reports the current run of contradicting cycles.
     pub fn jump_cycles(self) -> Count
         ensures { λ r. ⌜ r ≡ jumpCycles self ⌝ }
     {
-        Count::of(self.refusal(), self.jumps)
+        Count::of(self.refusal(), self.jumps as u64)
     }
 
-    // Whether the lock is under suspicion after a discontinuity.
+    // Reports the largest such run since the making.
+    pub fn longest_run(self) -> Count
+        ensures { λ r. ⌜ r ≡ longestRun self ⌝ }
+    {
+        Count::of(self.refusal(), self.largest as u64)
+    }
+
+    // Reports whether the lock is under suspicion after a discontinuity.
     pub fn suspect(self) -> Flag
         ensures { λ r. ⌜ r ≡ suspected self ⌝ }
     {
         Flag::of(self.refusal(), self.suspect)
     }
 
-    // Whether the tracker carries unfinished business.
+    // Tells whether the tracker has unfinished business.
     fn unfinished(self) -> bool
         ensures { λ r. ⌜ r ≡ unfinished self ⌝ }
     {
@@ -329,14 +328,14 @@ impl Tracker {
         self.suspect
     }
 
-    // Whether it carries none.
+    // Reports whether it has none.
     pub fn quiescent(self) -> Flag
         ensures { λ r. ⌜ r ≡ quiescent self ⌝ }
     {
         Flag::of(self.refusal(), !self.unfinished())
     }
 
-    // Whether a candidate lies outside the dead bands around the alignment.
+    // Tells whether a candidate lies outside the dead bands around the alignment.
     fn outside_bands(self, alignment: u64, delay: u64) -> bool
         ensures { λ r. ⌜ r ≡ outsideBands self alignment delay ⌝ }
     {
@@ -347,7 +346,7 @@ impl Tracker {
         answers::saturating_sub(delay, alignment) > bands.early
     }
 
-    // Whether a candidate is unrelated to the one before it.
+    // Tells whether a candidate is unrelated to the one before it.
     fn jumped(self, delay: u64) -> bool
         ensures { λ r. ⌜ r ≡ jumped self delay ⌝ }
     {
@@ -359,7 +358,7 @@ impl Tracker {
         }
     }
 
-    // Whether a candidate confirms the pending move.
+    // Tells whether a candidate confirms the pending move.
     fn confirms(self, delay: u64) -> bool
         ensures { λ r. ⌜ r ≡ confirmed self delay ⌝ }
     {
@@ -371,7 +370,7 @@ impl Tracker {
         }
     }
 
-    // Where a confirmed move lands: a correction to earlier lands with a lead.
+    // Tells where a confirmed move lands: a correction toward an earlier delay lands with a lead.
     fn landing(self, alignment: u64, delay: u64) -> u64
         ensures { λ r. ⌜ r ≡ landing self alignment delay ⌝ }
     {
@@ -382,7 +381,7 @@ impl Tracker {
         delay
     }
 
-    // A cycle that never cleared the gate counts, and clears nothing.
+    // Counts an unconfident cycle, which clears nothing.
     fn on_unconfident(self) -> Cycled
         ensures { λ r. ⌜ r ≡ unconfidentCycle self ⌝ }
     {
@@ -414,7 +413,7 @@ impl Tracker {
         }
     }
 
-    // A candidate pinned to an edge of the scanned range feeds its own run, and is not compared with others.
+    // Counts a candidate at an edge of the searched range. It adds only to its own run, and is not compared with others.
     fn on_edge(self) -> Cycled
         ensures { λ r. ⌜ r ≡ edgeCycle self ⌝ }
     {
@@ -433,14 +432,13 @@ impl Tracker {
         }
     }
 
-    // One step of the contradiction run, or its end.
+    // Takes one step of the contradiction run, or ends it.
     fn escalated(self, contradicted: bool, had_prev: bool) -> Cycled
         ensures { λ r. ⌜ r ≡ escalated self contradicted «had_prev» ⌝ }
     {
-        let mut tracker = self;
         if contradicted {
             let run = answers::next_count(self.jumps);
-            tracker.jumps = run;
+            let tracker = self.with_jumps(run);
             if run >= Tracker::JUMP_CYCLES {
                 return Cycled {
                     tracker,
@@ -453,15 +451,18 @@ impl Tracker {
             };
         }
         if had_prev {
-            tracker.jumps = 0;
+            return Cycled {
+                tracker: self.with_jumps(0),
+                verdict: Verdict::Hold,
+            };
         }
         Cycled {
-            tracker,
+            tracker: self.with_jumps(self.jumps),
             verdict: Verdict::Hold,
         }
     }
 
-    // A candidate that jumped, or replaces a pending one instead of confirming it.
+    // Tells whether a candidate jumped, or replaces a pending one instead of confirming it.
     fn contradicts(self, delay: u64) -> bool
         ensures { λ r. ⌜ r ≡ contradicts self delay ⌝ }
     {
@@ -472,7 +473,7 @@ impl Tracker {
         pending.present()
     }
 
-    // An interior candidate outside the bands confirms the pending move, or awaits its own confirmation.
+    // Judges an interior candidate outside the bands: it confirms the pending move, or awaits its own confirmation.
     fn on_outside(self, alignment: u64, delay: u64) -> Cycled
         ensures { λ r. ⌜ r ≡ outsideCycle self alignment delay ⌝ }
     {
@@ -488,7 +489,7 @@ impl Tracker {
         waiting.escalated(self.contradicts(delay), prev.present())
     }
 
-    // An interior candidate inside the bands confirms the alignment again.
+    // Judges an interior candidate. Inside the bands it confirms the alignment again.
     fn on_interior(self, alignment: u64, delay: u64) -> Cycled
         ensures { λ r. ⌜ r ≡ interiorCycle self alignment delay ⌝ }
     {
@@ -514,7 +515,7 @@ impl Tracker {
         }
     }
 
-    // The number with which a cycle is refused, 0 for none.
+    // Gives the number with which a cycle is refused, or 0 for none.
     fn cycle_refusal(self, alignment: Samples, outcome: Outcome) -> u8
         ensures { λ r. ⌜ r ≡ cycleRefusal self alignment outcome ⌝ }
     {

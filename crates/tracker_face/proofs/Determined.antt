@@ -4,7 +4,8 @@ use contract.Lifetimes.{Lfts}
 use denote.Ref.{now}
 use denote.Triple.Clauses.{AtExit}
 use borrow.Fn.Kinds.{Dens, resT, endedOf}
-use Rattle.answers.proofs.Once.{Determined, once}
+use Rattle.answers.specs.Once.{Determined}
+use Rattle.answers.proofs.Once.{once}
 use Rattle.tracker_face.proofs.tmv_tracker_words.Kinds as words-kinds
 use Rattle.tracker_face.proofs.tmv_tracker_words.Reads as words-reads
 use Rattle.tracker_face.proofs.tmv_tracker_new.Kinds as new-kinds
@@ -15,6 +16,8 @@ use Rattle.tracker_face.proofs.tmv_tracker_on_discontinuity.Kinds as on
 use Rattle.tracker_face.proofs.tmv_tracker_on_discontinuity.Reads as on-discontinuity-reads
 use Rattle.tracker_face.proofs.tmv_tracker_jump_cycles.Kinds as jump-cycles-kinds
 use Rattle.tracker_face.proofs.tmv_tracker_jump_cycles.Reads as jump-cycles-reads
+use Rattle.tracker_face.proofs.tmv_tracker_longest_run.Kinds as longest-run-kinds
+use Rattle.tracker_face.proofs.tmv_tracker_longest_run.Reads as longest-run-reads
 use Rattle.tracker_face.proofs.tmv_tracker_suspect.Kinds as suspect-kinds
 use Rattle.tracker_face.proofs.tmv_tracker_suspect.Reads as suspect-reads
 use Rattle.tracker_face.proofs.tmv_tracker_quiescent.Kinds as quiescent-kinds
@@ -58,6 +61,14 @@ pub jump-cycles-leaves-once : (κs : Lfts 2) (a : Dens κs jump-cycles-kinds.ps)
     → jump-cycles-reads.Post κs a v x → jump-cycles-reads.Post κs a w y
     → now (x .1 .0) ≡ now (y .1 .0)
 jump-cycles-leaves-once κs a v w x y p q = once (p .1) (q .1)
+
+pub longest-run-once : Determined 2 longest-run-kinds.ps longest-run-kinds.r longest-run-reads.Post
+longest-run-once κs a v w x y p q = once (p .0) (q .0)
+
+pub longest-run-leaves-once : (κs : Lfts 2) (a : Dens κs longest-run-kinds.ps) (v w : resT longest-run-kinds.r κs .Denot) (x y : AtExit (endedOf 2 longest-run-kinds.ps longest-run-kinds.r) κs)
+    → longest-run-reads.Post κs a v x → longest-run-reads.Post κs a w y
+    → now (x .1 .0) ≡ now (y .1 .0)
+longest-run-leaves-once κs a v w x y p q = once (p .1) (q .1)
 
 pub suspect-once : Determined 1 suspect-kinds.ps suspect-kinds.r suspect-reads.Post
 suspect-once κs a v w x y p q = once p q

@@ -1,4 +1,4 @@
-// The tracker's calls. crates/tracker_words/specs/Layout.antt says where each field of its state stands.
+// The tracker's calls. crates/tracker_words/specs/Layout.antt says where each field of its state is.
 use tracker::Cycled;
 use tracker::Delay;
 use tracker::Outcome;
@@ -7,7 +7,7 @@ use tracker_words::answering;
 use units::Samples;
 ghost use mathlib.Core.Path.{_≡_};
 ghost use Rattle.tracker_words.specs.Layout.{trackerWords};
-ghost use Rattle.tracker_face.specs.Calls.{judgedTracker, newCalled, onDiscontinuityCalled, outcomeOf, judgedAs, cycledOn, onCycleCalled, jumpCyclesCalled, suspectCalled, quiescentCalled};
+ghost use Rattle.tracker_face.specs.Calls.{judgedTracker, newCalled, onDiscontinuityCalled, outcomeOf, judgedAs, cycledOn, onCycleCalled, jumpCyclesCalled, longestRunCalled, suspectCalled, quiescentCalled};
 
 fn judge(state: &[u64], values_fit: bool) -> u32
     ensures { λ r. ⌜ r ≡ judgedTracker (now (state .entry)) «values_fit» ⌝ }
@@ -18,7 +18,7 @@ fn judge(state: &[u64], values_fit: bool) -> u32
     face::setting_first(answers::allowed_rate(words::half(state[0], 0)), values_fit)
 }
 
-// How many words a tracker's state has.
+// Returns how many words a tracker's state has.
 #[no_mangle]
 pub extern "C" fn tmv_tracker_words() -> u64
     ensures { λ r. ⌜ r ≡ trackerWords ⌝ }
@@ -28,7 +28,7 @@ pub extern "C" fn tmv_tracker_words() -> u64
 
 // ---- calls that change the tracker
 
-// A tracker for a lock at `rate`.
+// Makes a tracker for a lock at `rate`.
 #[no_mangle]
 pub extern "C" fn tmv_tracker_new(state: &mut [u64], rate: u32) -> u32
     ensures number { λ r. ⌜ r ≡ newCalled (now (state .entry)) rate .number ⌝ }
@@ -44,7 +44,7 @@ pub extern "C" fn tmv_tracker_new(state: &mut [u64], rate: u32) -> u32
     answering::settle_change(state, Tracker::new(rate))
 }
 
-// A stream discontinuity.
+// Tells the tracker that the stream was cut.
 #[no_mangle]
 pub extern "C" fn tmv_tracker_on_discontinuity(state: &mut [u64]) -> u32
     ensures number { λ r. ⌜ r ≡ onDiscontinuityCalled (now (state .entry)) .number ⌝ }
@@ -57,25 +57,23 @@ pub extern "C" fn tmv_tracker_on_discontinuity(state: &mut [u64]) -> u32
     answering::settle_change(state, tracker_words::load(state).on_discontinuity())
 }
 
-// A kind of cycle that is none is refused as a flag that is none is: the tracker is judged as if it broke a rule.
+// Refuses an unknown kind of cycle in the same way as an invalid flag: the tracker is judged as if it broke a rule.
 fn judged_as(tracker: Tracker, kind: u32) -> Tracker
     ensures { λ r. ⌜ r ≡ judgedAs tracker kind ⌝ }
 {
     if kind < 3 {
         return tracker;
     }
-    let bands = tracker.bands;
+    let pending = Delay::At(Samples(answers::LIMIT));
     let prev = tracker.prev;
-    Tracker {
-        rate: tracker.rate,
-        bands,
-        pending: Delay::At(Samples(answers::LIMIT)),
+    tracker.evidence(
+        pending,
         prev,
-        edges: tracker.edges,
-        jumps: tracker.jumps,
-        unconfident: tracker.unconfident,
-        suspect: tracker.suspect,
-    }
+        tracker.edges,
+        tracker.jumps,
+        tracker.unconfident,
+        tracker.suspect,
+    )
 }
 
 fn outcome(kind: u32, delay: u64) -> Outcome
@@ -102,7 +100,7 @@ fn cycle(tracker: Tracker, alignment: u64, kind: u32, delay: u64) -> Cycled
     judged_as(tracker, kind).on_cycle(Samples(alignment), outcome(kind, delay))
 }
 
-// One concluded cycle. Kind 0 is unconfident (its delay is not looked at), 1 an interior candidate, 2 one pinned to an edge.
+// Judges one concluded cycle. Kind 0 is unconfident (its delay is not looked at), 1 an interior candidate, 2 a candidate at an edge.
 #[no_mangle]
 pub extern "C" fn tmv_tracker_on_cycle(
     state: &mut [u64],
@@ -127,7 +125,7 @@ pub extern "C" fn tmv_tracker_on_cycle(
 
 // ---- reports
 
-// The standing run of contradicting cycles.
+// Reports the current run of contradicting cycles.
 #[no_mangle]
 pub extern "C" fn tmv_tracker_jump_cycles(state: &[u64], values: &mut [u64]) -> u32
     ensures number { λ r. ⌜ r ≡ jumpCyclesCalled (now (state .entry)) (now (values .entry)) .number ⌝ }
@@ -137,10 +135,23 @@ pub extern "C" fn tmv_tracker_jump_cycles(state: &[u64], values: &mut [u64]) -> 
     if refusal != 0 {
         return refusal;
     }
-    answering::tell_count(values, tracker_words::load(state).jump_cycles())
+    words::tell_count(values, tracker_words::load(state).jump_cycles())
 }
 
-// Whether the lock is under suspicion after a discontinuity.
+// Reports the largest such run since the making.
+#[no_mangle]
+pub extern "C" fn tmv_tracker_longest_run(state: &[u64], values: &mut [u64]) -> u32
+    ensures number { λ r. ⌜ r ≡ longestRunCalled (now (state .entry)) (now (values .entry)) .number ⌝ }
+    ensures values { λ r. ⌜ now (values .exit) ≡ longestRunCalled (now (state .entry)) (now (values .entry)) .values ⌝ }
+{
+    let refusal = judge(state, values.len() == words::ONE_VALUE);
+    if refusal != 0 {
+        return refusal;
+    }
+    words::tell_count(values, tracker_words::load(state).longest_run())
+}
+
+// Reports whether the lock is under suspicion after a discontinuity.
 #[no_mangle]
 pub extern "C" fn tmv_tracker_suspect(state: &[u64]) -> u32
     ensures { λ r. ⌜ r ≡ suspectCalled (now (state .entry)) .number ⌝ }
@@ -149,10 +160,10 @@ pub extern "C" fn tmv_tracker_suspect(state: &[u64]) -> u32
     if refusal != 0 {
         return refusal;
     }
-    answering::flag_number(tracker_words::load(state).suspect())
+    words::flag_number(tracker_words::load(state).suspect())
 }
 
-// Whether the tracker carries no unfinished business.
+// Reports whether the tracker has no unfinished business.
 #[no_mangle]
 pub extern "C" fn tmv_tracker_quiescent(state: &[u64]) -> u32
     ensures { λ r. ⌜ r ≡ quiescentCalled (now (state .entry)) .number ⌝ }
@@ -161,5 +172,5 @@ pub extern "C" fn tmv_tracker_quiescent(state: &[u64]) -> u32
     if refusal != 0 {
         return refusal;
     }
-    answering::flag_number(tracker_words::load(state).quiescent())
+    words::flag_number(tracker_words::load(state).quiescent())
 }

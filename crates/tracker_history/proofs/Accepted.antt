@@ -6,12 +6,12 @@ use mathlib.Core.List.{[], _∷_}
 use mathlib.Core.Logic.{_↔_}
 use lib.Dec.{ltb, eqb}
 use borrow.Author.Tests.{eqb-true, eq-eqb}
+use Rattle.answers.specs.declared.Change.the-variants.{Done}
 use Rattle.answers.specs.Numbers.{limit, allowedRate}
 use Rattle.answers.specs.Pick.{pick-true, pick-case}
 use Rattle.answers.specs.Refusals.{none}
 use Rattle.answers.proofs.Refusals.{passed, passed-both}
 use Rattle.units.specs.declared.Samples.{Samples}
-use Rattle.tracker.specs.declared.Answer.the-variants.{Done}
 use Rattle.tracker.specs.declared.Outcome.{Outcome}
 use Rattle.tracker.specs.declared.Tracker.{Tracker}
 use Rattle.tracker.specs.declared.Changed.{Changed}
@@ -24,7 +24,7 @@ use Rattle.tracker_history.specs.Histories.{cycle, discontinuity, Histor
 use Rattle.tracker_history.specs.Sentences.{AcceptedReads}
 use Rattle.tracker_history.proofs.Says.{clash, judged-says}
 
-sound-after : (rate : ℕ) (h : History) → Sound (trackerAfter rate h)
+pub sound-after : (rate : ℕ) (h : History) → Sound (trackerAfter rate h)
 unfolding trackerAfter
 sound-after rate [] = made-sound rate
 sound-after rate (cycle a o ∷ h) = cycled-sound (trackerAfter rate h) a o (sound-after rate h)

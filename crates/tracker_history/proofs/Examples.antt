@@ -1,17 +1,20 @@
 -- Five histories at 48,000 as the service desk would read them, one for each verdict and one that does not move twice. Their verdicts follow from the theorems, which
--- shows that none of these is empty.
+-- shows that none of these is empty. A sixth has a contradiction that is over when somebody looks.
 use mathlib.Core.Path.{_≡_, refl}
 use mathlib.Core.Bool.{true, false, false≢true}
 use mathlib.Core.List.{[], _∷_}
 use native.Mathlib.Omega.{arith}
+use Rattle.answers.specs.declared.Count.the-variants.{Is}
+use Rattle.answers.specs.Answers.{counted}
 use Rattle.answers.specs.Pick.{pick}
 use Rattle.units.specs.declared.Samples.{Samples}
 use Rattle.units.specs.Units.{samples}
 use Rattle.tracker.specs.declared.Outcome.the-variants.{Candidate, Unconfident}
 use Rattle.tracker.specs.declared.Trigger.the-variants.{Edge, Lost, Seam}
 use Rattle.tracker.specs.declared.Verdict.the-variants.{Reacquire}
-use Rattle.tracker.specs.Tracker.{bandsOf}
-use Rattle.tracker_history.specs.Histories.{Happening, cycle, discontinuity, History, InRange, Accepted, verdictAfter, outside, agrees, unconfidentRun, edgesSince, pendingIn, moves, inside, settles, suspicion}
+use Rattle.tracker.specs.Tracker.{bandsOf, sameBands, stateRefusal, changed, fresh, made, longestRun}
+use Rattle.tracker.specs.Cycle as tracker
+use Rattle.tracker_history.specs.Histories.{Happening, cycle, discontinuity, History, InRange, Accepted, trackerAfter, verdictAfter, outside, agrees, unconfidentRun, edgesSince, pendingIn, moves, inside, settles, suspicion}
 use Rattle.tracker_history.specs.Sentences.{IsMove}
 use Rattle.tracker_history.proofs.Accepted.{accepted-reads}
 use Rattle.tracker_history.proofs.Verdicts.{lost, seam, edge, move}
@@ -71,3 +74,11 @@ unfolding moves outside agrees pendingIn bandsOf pick
 moved-once m =
     let e = move 48000 (early ∷ once) here (Candidate (samples 4320) true) (accepted (early ∷ early ∷ once) (refl, refl, (refl, refl, (refl, refl, (refl, refl, record {}))))) .0 m in
     false≢true e
+
+-- a candidate at the alignment, one 1.9 s later, and a discontinuity: the run is 0, and the record says 1
+abbrev cut : History
+cut = discontinuity ∷ cycle here (Candidate (samples 96000) true) ∷ cycle here (Candidate here true) ∷ []
+
+pub over : (trackerAfter 48000 cut .jumps ≡ 0) × (longestRun (trackerAfter 48000 cut) ≡ Is 1)
+unfolding trackerAfter made fresh changed stateRefusal bandsOf sameBands counted pick tracker.cycled tracker.cycleRefusal tracker.judged tracker.interiorCycle tracker.outsideCycle tracker.outsideBands tracker.confirmed tracker.jumped tracker.contradicts tracker.escalated
+over = (refl, refl)

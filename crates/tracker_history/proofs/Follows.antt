@@ -6,20 +6,20 @@ use mathlib.Core.Bool.{Bool, true, false, not}
 use mathlib.Core.List.{[], _∷_}
 use native.Mathlib.Omega.{arith}
 use lib.Dec.{eqb}
+use Rattle.answers.specs.declared.Change.the-variants.{Done}
 use Rattle.answers.specs.Numbers.{allowedRate, nextCount}
 use Rattle.answers.specs.Pick.{pick, both, either, pick-all, pick-case}
 use Rattle.answers.specs.Refusals.{none}
 use Rattle.units.specs.declared.Samples.{Samples}
 use Rattle.tracker.specs.declared.Delay.{Delay}
 use Rattle.tracker.specs.declared.Delay.the-variants.{Nothing, At}
-use Rattle.tracker.specs.declared.Answer.the-variants.{Done}
 use Rattle.tracker.specs.declared.Outcome.{Outcome}
 use Rattle.tracker.specs.declared.Outcome.the-variants.{Candidate, Unconfident}
 use Rattle.tracker.specs.declared.Tracker.{Tracker}
 use Rattle.tracker.specs.declared.Changed.{Changed}
 use Rattle.tracker.specs.declared.Cycled.{Cycled}
 use Rattle.tracker.specs.Tracker.{bandsOf, stateRefusal, changed, fresh, made, evidence, seamed}
-use Rattle.tracker.specs.Cycle.{unconfidentCycle, edgeCycle, outsideBands, confirmed, escalated, outsideCycle, interiorCycle, judged, cycleRefusal, cycled}
+use Rattle.tracker.specs.Cycle.{unconfidentCycle, edgeCycle, outsideBands, confirmed, escalated, outsideCycle, interiorCycle, judged, cycleRefusal, cycled, withJumps}
 use Rattle.tracker_history.specs.Histories.{cycle, discontinuity, History, outside, agrees, unconfidentRun, edgesSince, pendingIn, moves, inside, settles, suspicion, trackerAfter, IsRefused, Accepted}
 
 -- ---- what an accepted call leaves
@@ -77,6 +77,9 @@ module _ (rate : ℕ) (h : History) (a d : Samples) (o c : Bool) where
   suspicion-by p q = simp (p, q)
 
 -- whatever the contradiction run is: no word speaks of it
+jumps-follow : (rate : ℕ) (h : History) (t : Tracker) (run : ℕ) → Follows rate h t → Follows rate h (withJumps t run)
+jumps-follow rate h t run f = record { bands = f .bands; pending = f .pending; suspect = f .suspect; edges = f .edges; unconfident = f .unconfident }
+
 module _ (rate : ℕ) (h : History) (t : Tracker) (f : Follows rate h t) (a d : Samples) (p q : Delay) (s : Bool)
     (hp : p ≡ pendingIn rate (cycle a (Candidate d true) ∷ h)) (hs : s ≡ suspicion rate (cycle a (Candidate d true) ∷ h)) where
   evidence-follows : (run : ℕ) → Follows rate (cycle a (Candidate d true) ∷ h) (evidence t p q 0 run 0 s)
@@ -85,7 +88,7 @@ module _ (rate : ℕ) (h : History) (t : Tracker) (f : Follows rate h t) (a d : 
 
   escalated-follows : (run : ℕ) (c had : Bool) → Follows rate (cycle a (Candidate d true) ∷ h) (escalated (evidence t p q 0 run 0 s) c had .tracker)
   unfolding escalated
-  escalated-follows run c had = pick-all (λ (r : Cycled). Follows rate (cycle a (Candidate d true) ∷ h) (r .tracker)) c _ _ (evidence-follows _) (evidence-follows _)
+  escalated-follows run c had = pick-all (λ (r : Cycled). Follows rate (cycle a (Candidate d true) ∷ h) (r .tracker)) c _ _ (jumps-follow _ _ _ _ (evidence-follows run)) (jumps-follow _ _ _ _ (evidence-follows run))
 
 -- ---- one cycle
 

@@ -1,11 +1,12 @@
--- Document 02, request m: "The service desk wants to explain each reacquire from the cycle history alone." What a history is, and the request's words as functions on
+-- Request m: "The service desk wants to explain each reacquire from the cycle history alone." This page says what a history is, and has the request's words as functions on
 -- it. Each looks back from the latest happening, as one would by hand. Only `trackerAfter` and `Accepted` know of a tracker; the words use nothing of it but the bands,
--- and these follow from the rate. specs/Sentences has the request's own sentences, and proofs/Sentences that each word means its sentence.
+-- which follow from the rate. specs/Sentences has the request's own sentences, and proofs/Sentences proves that each word means its sentence.
 use Prim.Native.Nat.{ℕ, _+_, _-_}
 use mathlib.Core.Path.{_≡_}
 use mathlib.Core.Bool.{Bool, true, false, not}
 use mathlib.Core.List.{List, [], _∷_}
 use lib.Dec.{ltb}
+use Rattle.answers.specs.declared.Change.the-variants.{Done}
 use Rattle.answers.specs.Numbers.{limit}
 use Rattle.answers.specs.Pick.{pick, both, either}
 use Rattle.units.specs.declared.Samples.{Samples}
@@ -15,52 +16,51 @@ use Rattle.tracker.specs.declared.Outcome.{Outcome}
 use Rattle.tracker.specs.declared.Outcome.the-variants.{Candidate, Unconfident}
 use Rattle.tracker.specs.declared.Verdict.{Verdict}
 use Rattle.tracker.specs.declared.Verdict.the-variants.{Refused}
-use Rattle.tracker.specs.declared.Answer.the-variants.{Done}
 use Rattle.tracker.specs.declared.Tracker.{Tracker}
 use Rattle.tracker.specs.Tracker.{bandsOf, made, seamed}
 use Rattle.tracker.specs.Cycle.{asNearAs, delayBelowLimit, cycled}
 
 -- ---- histories
 
--- a concluded cycle, with the alignment that it was judged against, or a discontinuity
+-- A happening is a concluded cycle, with the alignment that it was judged against, or a discontinuity.
 pub data Happening : Type 0 where
   cycle : Samples → Outcome → Happening
   discontinuity : Happening
 
--- the latest happening stands first
+-- The latest happening comes first.
 abbrev pub History : Type 0
 History = List Happening
 
 -- ---- candidates
 
--- "outside the bands": before the alignment by more than the late band, or after it by more than the early band
+-- "outside the bands": earlier than the alignment by more than the late band, or later by more than the early band
 unfoldable pub outside : ℕ → Samples → Samples → Bool
 outside rate alignment delay =
     either (ltb (bandsOf rate .late) (alignment .0 - delay .0)) (ltb (bandsOf rate .early) (delay .0 - alignment .0))
 
--- "within the agreement distance of a pending delay": never, where none is pending
+-- "within the agreement distance of a pending delay": never, if none is pending
 unfoldable pub agrees : ℕ → Delay → Samples → Bool
 agrees rate pending delay = asNearAs (bandsOf rate .agree) pending (delay .0)
 
--- an interior candidate outside the bands confirms what is pending where it agrees with it
+-- An interior candidate outside the bands confirms the pending delay if it agrees with it.
 abbrev pub confirms : ℕ → Delay → Samples → Samples → Bool
 confirms rate pending alignment delay = both (outside rate alignment delay) (agrees rate pending delay)
 
--- what an interior candidate leaves pending: itself, unless it confirmed a move or is inside the bands
+-- An interior candidate leaves itself pending, unless it confirmed a move or is inside the bands.
 abbrev pub leavesPending : ℕ → Delay → Samples → Samples → Delay
 leavesPending rate pending alignment delay =
     pick (confirms rate pending alignment delay) Nothing (pick (outside rate alignment delay) (At delay) Nothing)
 
 -- ---- the words
 
--- how many unconfident cycles end the history, with nothing else between them: "a run of .. unconfident cycles with no discontinuity inside it"
+-- Counts the unconfident cycles that end the history, with nothing else between them: "a run of .. unconfident cycles with no discontinuity inside it"
 unfoldable pub unconfidentRun : History → ℕ
 unconfidentRun [] = 0
 unconfidentRun (cycle a Unconfident ∷ h) = unconfidentRun h + 1
 unconfidentRun (cycle a (Candidate d i) ∷ h) = 0
 unconfidentRun (discontinuity ∷ h) = 0
 
--- edge candidates "since the last interior candidate or discontinuity, unconfident cycles between them not counting"
+-- Counts the edge candidates "since the last interior candidate or discontinuity, unconfident cycles between them not counting"
 unfoldable pub edgesSince : History → ℕ
 edgesSince [] = 0
 edgesSince (cycle a Unconfident ∷ h) = edgesSince h
@@ -77,7 +77,7 @@ pendingIn rate (cycle a (Candidate d true) ∷ h) = leavesPending rate (pendingI
 pendingIn rate (cycle a (Candidate d false) ∷ h) = Nothing
 pendingIn rate (discontinuity ∷ h) = Nothing
 
--- the cycle moves: "the candidate is interior, outside the bands and within the agreement distance of a pending delay"
+-- The cycle moves: "the candidate is interior, outside the bands and within the agreement distance of a pending delay"
 unfoldable pub moves : ℕ → History → Samples → Outcome → Bool
 moves rate h a Unconfident = false
 moves rate h a (Candidate d true) = confirms rate (pendingIn rate h) a d
@@ -101,13 +101,13 @@ suspicion rate (discontinuity ∷ h) = true
 
 -- ---- the tracker
 
--- what the calls leave, one after the other, from a new tracker
+-- What the calls leave, one after the other, beginning with a new tracker.
 unfoldable pub trackerAfter : ℕ → History → Tracker
 trackerAfter rate [] = made rate .tracker
 trackerAfter rate (cycle a o ∷ h) = cycled (trackerAfter rate h) a o .tracker
 trackerAfter rate (discontinuity ∷ h) = seamed (trackerAfter rate h) .tracker
 
--- the verdict on a cycle that comes after the history
+-- The verdict on a cycle that comes after the history.
 abbrev pub verdictAfter : ℕ → History → Samples → Outcome → Verdict
 verdictAfter rate h a o = cycled (trackerAfter rate h) a o .verdict
 
@@ -120,7 +120,7 @@ Accepted rate [] = made rate .answer ≡ Done
 Accepted rate (cycle a o ∷ h) = (IsRefused (verdictAfter rate h a o) → ⊥) × Accepted rate h
 Accepted rate (discontinuity ∷ h) = (seamed (trackerAfter rate h) .answer ≡ Done) × Accepted rate h
 
--- the same from the history alone: every alignment and delay is below 2^62
+-- Says the same from the history alone: every alignment and delay is below 2^62.
 abbrev pub InRange : History → Type 0
 InRange [] = Unit {0}
 InRange (cycle a o ∷ h) = (ltb (a .0) limit ≡ true) × (delayBelowLimit o ≡ true) × InRange h

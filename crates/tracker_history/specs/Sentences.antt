@@ -1,5 +1,5 @@
--- Document 02, request m: its sentences about a history, and its statements. A sentence names a part of the history and says what does not occur in it, as the paper does,
--- so that nobody need trust the recursion of a word. The statements say that each word is its sentence, and which verdict a cycle has exactly when.
+-- Request m: its sentences about a history, and its statements. A sentence names a part of the history and says what does not occur in it, as the paper does,
+-- so that nobody need trust the recursion of a word. The statements say that each word means its sentence, and exactly when a cycle gets which verdict.
 use Prim.Native.Nat.{ℕ, _+_, _≤_}
 use mathlib.Core.Path.{_≡_}
 use mathlib.Core.Bool.{Bool, true, false, not}
@@ -26,7 +26,7 @@ use Rattle.tracker_history.specs.Histories.{Happening, cycle, discontinu
 abbrev pub Test : Type 0
 Test = History → Happening → Bool
 
--- a test of cycles, with the answer that every discontinuity gets
+-- Makes a test of cycles into a test of happenings; every discontinuity gets the answer `atSeam`.
 abbrev pub onCycles : Bool → (History → Samples → Outcome → Bool) → Test
 onCycles atSeam test h discontinuity = atSeam
 onCycles atSeam test h (cycle a o) = test h a o
@@ -43,24 +43,24 @@ abbrev pub isInterior : Outcome → Bool
 isInterior Unconfident = false
 isInterior (Candidate d i) = i
 
--- an "interior candidate outside the bands"
+-- Tells whether the cycle found an "interior candidate outside the bands".
 abbrev pub isOutside : ℕ → Samples → Outcome → Bool
 isOutside rate a Unconfident = false
 isOutside rate a (Candidate d i) = pick i (outside rate a d) false
 
 -- ---- a part of a history
 
--- none of the later happenings passes the test, each asked with all that came before it
+-- None of the later happenings passes the test, which sees with each all that came before it.
 abbrev pub None : Test → History → History → Type 0
 None test [] earlier = Unit {0}
 None test (x ∷ later) earlier = (test (later ++ earlier) x ≡ false) × None test later earlier
 
--- the latest happening passes the test; a history of none has no latest
+-- The latest happening passes the test. An empty history has no latest.
 abbrev pub LatestPasses : Test → History → Type 0
 LatestPasses test [] = Unit {0}
 LatestPasses test (x ∷ h) = test h x ≡ true
 
--- what came "since the last" happening that passes the test, and all of the history "if none did"
+-- Splits off what came "since the last" happening that passes the test, or all of the history "if none did".
 pub record SinceLast (test : Test) (h : History) : Type 0 where
   pub since : History
   pub earlier : History
@@ -70,7 +70,7 @@ pub record SinceLast (test : Test) (h : History) : Type 0 where
 
 -- ---- the sentences
 
--- anything but an unconfident cycle, a discontinuity too
+-- Anything but an unconfident cycle breaks the run, a discontinuity too.
 abbrev pub breaksRun : Test
 breaksRun = onCycles true (λ h a o. not (isUnconfident o))
 
@@ -86,7 +86,7 @@ pub record EndsRun (least : ℕ) (h : History) : Type 0 where
 abbrev pub liftsSuspicion : ℕ → Test
 liftsSuspicion rate = onCycles false (settles rate)
 
--- whether a discontinuity is among the happenings
+-- Tells whether a discontinuity is among the happenings.
 unfoldable pub seamAmong : History → Bool
 seamAmong [] = false
 seamAmong (cycle a o ∷ h) = seamAmong h
@@ -101,7 +101,7 @@ pub record Suspect (rate : ℕ) (h : History) : Type 0 where
 abbrev pub clearsEdges : Test
 clearsEdges = onCycles true (λ h a o. isInterior o)
 
--- how many edge candidates are among the happenings, whatever else is
+-- Counts the edge candidates among the happenings, whatever else is there.
 unfoldable pub edgesAmong : History → ℕ
 edgesAmong [] = 0
 edgesAmong (cycle a o ∷ h) = pick (isEdge o) 1 0 + edgesAmong h
@@ -112,7 +112,7 @@ pub record EdgesCame (least : ℕ) (h : History) : Type 0 where
   pub after : SinceLast clearsEdges h
   pub came : least ≤ edgesAmong (after .since)
 
--- what may not have come since the candidate whose delay is pending: another "interior candidate outside the bands", for it is the "latest"; a "move"; an "edge candidate,
+-- Tells what may not have come since the candidate whose delay is pending: another "interior candidate outside the bands", since it is the "latest"; a "move"; an "edge candidate,
 -- candidate inside the bands or discontinuity"
 abbrev pub clearsPending : ℕ → Test
 clearsPending rate =
@@ -155,11 +155,11 @@ PendingReads = (rate : ℕ) (h : History) (delay : Samples) → (pendingIn rate 
 abbrev pub MovesRead : Type 0
 MovesRead = (rate : ℕ) (h : History) (a : Samples) (o : Outcome) → (moves rate h a o ≡ true) ↔ Confirms rate h a o
 
--- whether a history is accepted shows in it too: an allowed rate, and numbers below 2^62
+-- The history itself shows whether it is accepted: the rate is allowed, and the numbers are below 2^62.
 abbrev pub AcceptedReads : Type 0
 AcceptedReads = (rate : ℕ) (h : History) → Accepted rate h ↔ ((allowedRate rate ≡ true) × InRange h)
 
--- ---- the verdicts by the words, of every accepted cycle after every accepted history
+-- ---- the verdicts by the words, on every accepted cycle after every accepted history
 
 abbrev pub Exactly : (Verdict → Type 0) → (ℕ → History → Samples → Outcome → Type 0) → Type 0
 Exactly says when =
@@ -208,7 +208,7 @@ MoveLeaves =
 
 -- ---- the verdicts by the sentences
 
--- what a cycle gave, explained by the history before it
+-- Explains what a cycle gave by the history before it.
 pub record Explained (rate : ℕ) (h : History) (a : Samples) (o : Outcome) (gave : Cycled) : Type 0 where
   pub lost : (gave .verdict ≡ Reacquire Lost) ↔ (EndsRun 8 (cycle a o ∷ h) × (Suspect rate h → ⊥))
   pub seam : (gave .verdict ≡ Reacquire Seam) ↔ (EndsRun 4 (cycle a o ∷ h) × Suspect rate h)
@@ -219,7 +219,7 @@ pub record Explained (rate : ℕ) (h : History) (a : Samples) (o : Outcome) (gav
 abbrev pub AllExplained : Type 0
 AllExplained = (rate : ℕ) (h : History) (a : Samples) (o : Outcome) → Accepted rate (cycle a o ∷ h) → Explained rate h a o (cycled (trackerAfter rate h) a o)
 
--- "moved", said of an earlier cycle, means that a move was its verdict
+-- "moved", said of an earlier cycle, means that its verdict was a move
 abbrev pub MovedThen : Type 0
 MovedThen =
     (rate : ℕ) (since : History) (a : Samples) (o : Outcome) (earlier : History) → Accepted rate (since ++ (cycle a o ∷ earlier))

@@ -2,11 +2,12 @@
 // tests/tracker/README.md says how the files were made and what a record holds.
 ghost use Prim.Native.Nat.{_+_, _≤_};
 ghost use lib.ListN.{length};
-use tracker::Answer;
+use answers::Change;
+use answers::Count;
+use answers::Flag;
 use tracker::Bands;
 use tracker::Cycled;
 use tracker::Delay;
-use tracker::Flag;
 use tracker::Outcome;
 use tracker::Tracker;
 use tracker::Trigger;
@@ -67,10 +68,10 @@ fn tell(v: Verdict) -> Told {
 }
 
 // No verdict is written as a refusal with 0.
-fn no_verdict(a: Answer) -> Verdict {
+fn no_verdict(a: Change) -> Verdict {
     match a {
-        Answer::Refused(n) => Verdict::Refused(n),
-        Answer::Done => Verdict::Refused(0),
+        Change::Refused(n) => Verdict::Refused(n),
+        Change::Done => Verdict::Refused(0),
     }
 }
 
@@ -115,6 +116,13 @@ fn same_flag(f: Flag, is: bool) -> bool {
     }
 }
 
+fn same_count(c: Count, n: u64) -> bool {
+    match c {
+        Count::Refused(_) => false,
+        Count::Is(k) => k == n,
+    }
+}
+
 fn same_runs(t: Tracker, bytes: &[u8], at: usize) -> bool
     requires { ⌜ at + 64 ≤ length (now bytes) ⌝ }
 {
@@ -155,6 +163,9 @@ fn same_tracker(t: Tracker, bytes: &[u8], at: usize) -> bool
     if !same_runs(t, bytes, at) {
         return false;
     }
+    if !same_count(t.longest_run(), vectors::number(bytes, at + 60, 4)) {
+        return false;
+    }
     if !same_flag(t.suspect(), flagged(bytes, at, 4)) {
         return false;
     }
@@ -178,6 +189,7 @@ fn stored(bytes: &[u8], at: usize) -> Tracker
         jumps: vectors::number32(bytes, at + 52),
         unconfident: vectors::number32(bytes, at + 56),
         suspect: flagged(bytes, at, 4),
+        largest: vectors::number32(bytes, at + 60),
     }
 }
 

@@ -28,7 +28,8 @@ module _ (ws : List ℕ) (t : Tracker) (h : Fits t) where
   unfolding areCases stored
   cases-hold =
       pick-true _ _ _ (all-below _ _ _ _ (delay-case (t .pending)) (delay-case (t .prev)) (flag-case (t .suspect)))
-      ∙ all-below _ _ _ _ (lt-ltb _ _ (h .edges)) (lt-ltb _ _ (h .jumps)) (lt-ltb _ _ (h .unconfident))
+      ∙ (pick-true _ _ _ (all-below _ _ _ _ (lt-ltb _ _ (h .edges)) (lt-ltb _ _ (h .jumps)) (lt-ltb _ _ (h .unconfident)))
+      ∙ lt-ltb _ _ (h .largest))
 
   pending-back : loadedPending (stored ws t) ≡ t .pending
   unfolding loadedPending stored
@@ -37,7 +38,7 @@ module _ (ws : List ℕ) (t : Tracker) (h : Fits t) where
   back : loaded (stored ws t) ≡ t
   unfolding loaded loadedBands stored
   back =
-      rw (pending-back, delay-back (word ws 9) (t .prev), half-small (t .rate) 0 (h .rate), half-small (t .edges) 0 (h .edges), half-small (t .jumps) 0 (h .jumps), half-small (t .unconfident) 0 (h .unconfident), flag-reads (t .suspect))
+      rw (pending-back, delay-back (word ws 9) (t .prev), half-small (t .rate) 0 (h .rate), half-small (t .edges) 0 (h .edges), half-small (t .jumps) 0 (h .jumps), half-small (t .unconfident) 0 (h .unconfident), flag-reads (t .suspect), half-small (t .largest) 0 (h .largest))
 
 pub load-after-store : LoadsAfterStore
 load-after-store ws t h = back ws t h

@@ -1,4 +1,4 @@
-// A tracker's state, from the 14 words that a host lends and back, and its calls' answers as numbers and values. specs/Layout.antt says where each field stands.
+// Loads a tracker's state from the 15 words that a host lends, stores it there, and turns its calls' answers into numbers and values. specs/Layout.antt says where each field is.
 ghost use mathlib.Core.Path.{_≡_};
 ghost use lib.ListN.{length};
 ghost use Rattle.tracker_words.specs.Layout.{trackerWords, loadedBands, loadedDelay, areCases, loadedPending, loaded, delayFlag, delayWord, stored, settled};
@@ -9,7 +9,7 @@ use units::Samples;
 
 pub mod answering; // what a call answers
 
-pub const WORDS: usize = 14;
+pub const WORDS: usize = 15;
 
 fn load_bands(state: &[u64]) -> Bands
     requires { ⌜ length (now state) ≡ trackerWords ⌝ }
@@ -33,7 +33,7 @@ fn load_delay(flag: u64, delay: u64) -> Delay
     Delay::At(Samples(delay))
 }
 
-// Whether each flag is 0 or 1, and each run a number of 32 bits.
+// Tells whether each flag is 0 or 1, and each run and the largest one is a number of 32 bits.
 fn are_cases(state: &[u64]) -> bool
     requires { ⌜ length (now state) ≡ trackerWords ⌝ }
     ensures { λ r. ⌜ r ≡ areCases (now (state .entry)) ⌝ }
@@ -41,7 +41,10 @@ fn are_cases(state: &[u64]) -> bool
     if !words::all_below(2, state[6], state[8], state[13]) {
         return false;
     }
-    words::all_below(0x1_0000_0000, state[10], state[11], state[12])
+    if !words::all_below(0x1_0000_0000, state[10], state[11], state[12]) {
+        return false;
+    }
+    state[14] < 0x1_0000_0000
 }
 
 fn load_pending(state: &[u64]) -> Delay
@@ -67,6 +70,7 @@ pub fn load(state: &[u64]) -> Tracker
         jumps: words::half(state[11], 0),
         unconfident: words::half(state[12], 0),
         suspect: state[13] == 1,
+        largest: words::half(state[14], 0),
     }
 }
 
@@ -79,7 +83,7 @@ fn delay_flag(delay: Delay) -> u64
     }
 }
 
-// A delay that is not there leaves what stood in its word.
+// Without a delay, its word keeps what it held.
 fn delay_word(old: u64, delay: Delay) -> u64
     ensures { λ r. ⌜ r ≡ delayWord old delay ⌝ }
 {
@@ -93,6 +97,7 @@ fn store(state: &mut [u64], tracker: Tracker)
     requires { ⌜ length (now state) ≡ trackerWords ⌝ }
     ensures { λ _. ⌜ now (state .exit) ≡ stored (now (state .entry)) tracker ⌝ }
 {
+    let largest = tracker.largest as u64;
     let bands = tracker.bands;
     let pending = tracker.pending;
     let prev = tracker.prev;
@@ -111,11 +116,12 @@ fn store(state: &mut [u64], tracker: Tracker)
         tracker.jumps as u64,
         tracker.unconfident as u64,
         words::flag(tracker.suspect),
+        largest,
     ];
     words::put(&stored, state);
 }
 
-// What a call leaves in the words, nothing new where it was refused; and the call's number.
+// Stores what a call leaves in the words, nothing new if it was refused, and returns the call's number.
 pub fn settle(state: &mut [u64], number: u32, tracker: Tracker) -> u32
     requires { ⌜ length (now state) ≡ trackerWords ⌝ }
     ensures number { λ r. ⌜ r ≡ number ⌝ }

@@ -1,5 +1,6 @@
--- `tracker_calls::judged_as` meets its contract.
+-- `tracker_face::judged_as` meets its contract.
 use Rattle.answers.proofs.Cases.{cases}
+use borrow.Author.Needs.{needs}
 use Rattle.tracker_face.specs.Calls.{judgedAs}
 use Rattle.tracker_face.proofs.judged_as.Statement.{statement}
 use Rattle.tracker_face.proofs.judged_as.Tie as tie
@@ -8,9 +9,12 @@ returns : tie.Need-returns
 unfolding judgedAs
 returns c = search cases
 
+evidence-requires : tie.Need-evidence-requires
+evidence-requires c κs = search needs
+
 returns-2 : tie.Need-returns-2
 unfolding judgedAs
-returns-2 c = search cases
+returns-2 c = search (cases, c .evidence .ensures)
 
 pub judged-as-spec : {M : Type 1} → statement M
-judged-as-spec = tie.close (tie.spec returns returns-2)
+judged-as-spec = tie.close (tie.spec returns evidence-requires returns-2)

@@ -35,7 +35,14 @@ all-below-requires-2 c κs = search needs
 
 returns-2 : tie.Need-returns-2
 unfolding areCases
-returns-2 c = search (cases, ← c .before .before .before .before .before .all-below .ensures, ← c .all-below2 .ensures)
+returns-2 c = search (cases, ← c .before .before .before .before .before .before .all-below .ensures, ← c .before .all-below2 .ensures)
+
+shared-slice-read-result : tie.Need-shared-slice-read-result
+shared-slice-read-result c = search needs
+
+returns-3 : tie.Need-returns-3
+unfolding areCases
+returns-3 c = search (cases, ← c .before .before .before .before .before .before .before .all-below .ensures, ← c .before .before .all-below2 .ensures)
 
 pub are-cases-spec : {M : Type 1} → statement M
 are-cases-spec =
@@ -50,4 +57,6 @@ are-cases-spec =
     shared-slice-read-all-below-5
     shared-slice-read-all-below-6
     all-below-requires-2
-    returns-2)
+    returns-2
+    shared-slice-read-result
+    returns-3)

@@ -46,9 +46,15 @@ half-requires-4 c κs = search needs
 shared-slice-read-t22 : tie.Need-shared-slice-read-t22
 shared-slice-read-t22 c = search needs
 
+shared-slice-read-half-5 : tie.Need-shared-slice-read-half-5
+shared-slice-read-half-5 c = search needs
+
+half-requires-5 : tie.Need-half-requires-5
+half-requires-5 c κs = search needs
+
 returns : tie.Need-returns
 unfolding loaded
-returns c = search (needs, ← c .before .before .before .before .before .before .before .before .before .before .before .before .half .ensures, ← c .before .before .before .before .before .before .before .before .before .before .before .load-bands .ensures, ← c .before .before .before .before .before .before .before .before .before .before .load-pending .ensures, ← c .before .before .before .before .before .before .before .load-delay .ensures, ← c .before .before .before .before .before .half2 .ensures, ← c .before .before .before .half3 .ensures, ← c .before .half4 .ensures)
+returns c = search (needs, ← c .before .before .before .before .before .before .before .before .before .before .before .before .before .before .half .ensures, ← c .before .before .before .before .before .before .before .before .before .before .before .before .before .load-bands .ensures, ← c .before .before .before .before .before .before .before .before .before .before .before .before .load-pending .ensures, ← c .before .before .before .before .before .before .before .before .before .load-delay .ensures, ← c .before .before .before .before .before .before .before .half2 .ensures, ← c .before .before .before .before .before .half3 .ensures, ← c .before .before .before .half4 .ensures, ← c .half5 .ensures)
 
 pub load-spec : {M : Type 1} → statement M
 load-spec =
@@ -68,4 +74,6 @@ load-spec =
     shared-slice-read-half-4
     half-requires-4
     shared-slice-read-t22
+    shared-slice-read-half-5
+    half-requires-5
     returns)

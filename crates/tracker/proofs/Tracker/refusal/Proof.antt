@@ -38,7 +38,11 @@ returns-4 c = search (cases, ← c .before .before .before .before .before .befo
 
 returns-5 : tie.Need-returns-5
 unfolding stateRefusal
-returns-5 c = search (cases, ← c .before .before .before .before .before .before .before .before .allowed-rate .ensures, ← c .before .before .before .before .before .before .bands-of .ensures, ← c .before .before .before .before .before .same .ensures, ← c .before .before .before .below-limit .ensures, ← c .before .below-limit2 .ensures)
+returns-5 c = search (cases, ← c .before .before .before .before .before .before .before .before .before .before .allowed-rate .ensures, ← c .before .before .before .before .before .before .before .before .bands-of .ensures, ← c .before .before .before .before .before .before .before .same .ensures, ← c .before .before .before .before .before .below-limit .ensures, ← c .before .before .before .below-limit2 .ensures)
+
+returns-6 : tie.Need-returns-6
+unfolding stateRefusal
+returns-6 c = search (cases, ← c .before .before .before .before .before .before .before .before .before .before .allowed-rate .ensures, ← c .before .before .before .before .before .before .before .before .bands-of .ensures, ← c .before .before .before .before .before .before .before .same .ensures, ← c .before .before .before .before .before .below-limit .ensures, ← c .before .before .before .below-limit2 .ensures)
 
 pub refusal-spec : {M : Type 1} → statement M
 refusal-spec =
@@ -53,4 +57,5 @@ refusal-spec =
     returns-3
     below-limit-requires-2
     returns-4
-    returns-5)
+    returns-5
+    returns-6)

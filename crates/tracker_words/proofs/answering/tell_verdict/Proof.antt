@@ -1,9 +1,22 @@
 -- `tracker_words::answering::tell_verdict` meets its contract.
 use Rattle.answers.proofs.Cases.{cases}
-use Rattle.tracker_words.specs.Answers.{verdictNumber, verdictTold}
+use mathlib.Core.Path.{_≡_, refl}
+use mathlib.Core.List.{[]}
+use Rattle.tracker.specs.declared.Trigger.{Trigger}
+use Rattle.tracker.specs.declared.Trigger.the-variants.{Edge, Lost, Jump, Seam}
+use Rattle.tracker.specs.Told.{reacquire}
+use Rattle.words.specs.Answers.{number, valuesOf, putFrom}
 use borrow.Author.Needs.{needs}
 use Rattle.tracker_words.proofs.answering.tell_verdict.Statement.{statement}
 use Rattle.tracker_words.proofs.answering.tell_verdict.Tie as tie
+
+-- a trigger has no values
+no-values : (w : Trigger) → valuesOf (reacquire w) ≡ []
+unfolding valuesOf
+no-values Edge = refl
+no-values Lost = refl
+no-values Jump = refl
+no-values Seam = refl
 
 enum-known-verdict : tie.Need-enum-known-verdict
 enum-known-verdict c = search needs
@@ -27,23 +40,23 @@ trigger-number-requires : tie.Need-trigger-number-requires
 trigger-number-requires c κs = search needs
 
 returns : tie.Need-returns
-unfolding verdictNumber verdictTold
+unfolding number valuesOf putFrom
 returns c = search needs
 
 returns-2 : tie.Need-returns-2
-unfolding verdictNumber verdictTold
+unfolding number valuesOf putFrom
 returns-2 c = search needs
 
 same-length : tie.Need-same-length
 same-length c = search needs
 
 returns-3 : tie.Need-returns-3
-unfolding verdictNumber verdictTold
+unfolding number valuesOf putFrom
 returns-3 c = (search (cases, c .before .verdict2 .given .1), search (cases, c .before .verdict2 .given .1))
 
 returns-4 : tie.Need-returns-4
-unfolding verdictNumber verdictTold
-returns-4 c = (search (cases, ← c .trigger-number .ensures, c .before .before .verdict3 .given .1), search (cases, c .before .before .verdict3 .given .1))
+unfolding putFrom
+returns-4 c = (search (cases, ← c .trigger-number .ensures, c .before .before .verdict3 .given .1), search (cases, c .before .before .verdict3 .given .1, no-values))
 
 pub tell-verdict-spec : {M : Type 1} → statement M
 tell-verdict-spec =

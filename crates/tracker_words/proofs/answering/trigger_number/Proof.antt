@@ -1,5 +1,5 @@
 -- `tracker_words::answering::trigger_number` meets its contract.
-use Rattle.tracker_words.specs.Answers.{triggerNumber}
+use Rattle.words.specs.Answers.{number}
 use borrow.Author.Needs.{needs}
 use Rattle.tracker_words.proofs.answering.trigger_number.Statement.{statement}
 use Rattle.tracker_words.proofs.answering.trigger_number.Tie as tie
@@ -17,19 +17,19 @@ enum-told-4 : tie.Need-enum-told-4
 enum-told-4 c = search needs
 
 returns : tie.Need-returns
-unfolding triggerNumber
+unfolding number
 returns c = search needs
 
 returns-2 : tie.Need-returns-2
-unfolding triggerNumber
+unfolding number
 returns-2 c = search needs
 
 returns-3 : tie.Need-returns-3
-unfolding triggerNumber
+unfolding number
 returns-3 c = search needs
 
 returns-4 : tie.Need-returns-4
-unfolding triggerNumber
+unfolding number
 returns-4 c = search needs
 
 pub trigger-number-spec : {M : Type 1} → statement M
