@@ -56,4 +56,14 @@ impl DelayEstimator {
         self.last_scan_peak_at = peak_at;
         self.last_scan_origin = origin;
     }
+
+    /// Where the largest of `entries` stands last, by the peak rule on the array turned round: there it is the first. Its scan is recorded here, so
+    /// this is asked of an estimator that is kept for it.
+    pub(crate) fn last_of(&mut self, entries: &[f32]) -> usize {
+        let span = self.max_delay;
+        let turned: Vec<f32> = entries.iter().rev().copied().collect();
+        self.correlation().copy_from_slice(&turned);
+        self.peak_rule();
+        span - self.last_scan_peak_at.expect("the scan was recorded")
+    }
 }

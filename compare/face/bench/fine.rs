@@ -13,9 +13,9 @@ pub fn peak(span: u32) {
         .map(|_| choices::sample(&mut random) * 0.01)
         .collect();
     correlation[span as usize / 3] = 1.0;
-    let mut state = [0; 13];
+    let mut state = [0; 14];
     assert_eq!(face::fine::new(&mut state, span), 16);
-    let mut values = [0; 3];
+    let mut values = [0; 4];
     let mut original = DelayEstimator::new(1000, span as u16);
     original.correlation().copy_from_slice(&correlation);
     let times = Times::take(

@@ -13,7 +13,7 @@ fn counted() -> Difference {
     let mut w = World::new(9);
     w.correlation.all_mut()[3] = 1.0;
     w.set_word(8, u64::MAX);
-    face::peak(w.state.lent_mut(), w.correlation.lent(), &mut [0; 3]);
+    face::peak(w.state.lent_mut(), w.correlation.lent(), &mut [0; 4]);
     let mut original = DelayEstimator::new(1000, 9);
     original.correlation().copy_from_slice(w.correlation.all());
     original.set_counts(0, 0, u64::MAX);

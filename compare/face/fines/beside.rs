@@ -5,18 +5,45 @@ use super::world::{World, WORDS};
 use crate::delay::DelayEstimator;
 use crate::lent::Buffer;
 
-/// At 1,000 Hz a millisecond is a sample.
-pub fn new(span: u32) -> DelayEstimator {
-    DelayEstimator::new(1000, span as u16)
+/// The original, and where the peak of the last scan stands last. The original does not keep that: a second one finds it in the array turned round.
+pub struct Original {
+    pub fine: DelayEstimator,
+    turned: DelayEstimator,
+    last: u64,
+}
+
+impl Original {
+    /// At 1,000 Hz a millisecond is a sample.
+    pub fn new(span: u32) -> Original {
+        Original {
+            fine: DelayEstimator::new(1000, span as u16),
+            turned: DelayEstimator::new(1000, span as u16),
+            last: 0,
+        }
+    }
+
+    /// Notes where the peak of the scan just recorded stands last.
+    pub fn note_last(&mut self) -> u64 {
+        self.last = self.turned.last_of(self.fine.correlation()) as u64;
+        self.last
+    }
+
+    /// Where the last scan's peak stands, first and last.
+    pub fn peak_at(&self) -> Option<[u64; 2]> {
+        let first = self.fine.last_scan_peak_at()?;
+        Some([first as u64, self.last])
+    }
 }
 
 /// Brings an original to the state that the words and both frames said. A count at its largest value, which the original would pass, is set
 /// one lower. Where the words say another span than the lists have, frames that do not fit are not lent.
-pub fn bring(w: &World, fine: &mut DelayEstimator) {
+pub fn bring(w: &World, original: &mut Original) {
     let words = w.state.before();
-    if fine.max_delay() as u64 != words[0] {
-        *fine = new(words[0] as u32);
+    if original.fine.max_delay() as u64 != words[0] {
+        *original = Original::new(words[0] as u32);
     }
+    original.last = words[13];
+    let fine = &mut original.fine;
     let retained = (words[5] == 1).then(|| w.retained.before());
     let counts = (
         lower(words[6], u32::MAX as u64) as u32,
@@ -47,8 +74,9 @@ pub fn forget_scan(w: &World, fine: &mut DelayEstimator) {
 
 /// The words that the original's state has, over those that were there before. Where it stands one below the largest
 /// value that a count had, that count stays at it.
-pub fn stored(w: &World, fine: &DelayEstimator) -> [u64; WORDS] {
-    let before: [u64; WORDS] = w.state.before().try_into().expect("13 words");
+pub fn stored(w: &World, original: &Original) -> [u64; WORDS] {
+    let fine = &original.fine;
+    let before: [u64; WORDS] = w.state.before().try_into().expect("14 words");
     let count = |at: usize, largest: u64, now: u64| match before[at] == largest {
         true if now == largest - 1 => largest,
         _ => now,
@@ -65,9 +93,10 @@ pub fn stored(w: &World, fine: &DelayEstimator) -> [u64; WORDS] {
     words[7] = count(7, u32::MAX as u64, fine.skipped() as u64);
     words[8] = count(8, u64::MAX, fine.scans());
     words[9] = fine.last_scan_ratio().to_bits();
-    words[10] = fields.last_peak_at.is_some() as u64;
-    if let Some(at) = fields.last_peak_at {
-        words[11] = at as u64;
+    words[10] = original.peak_at().is_some() as u64;
+    if let Some([first, last]) = original.peak_at() {
+        words[11] = first;
+        words[13] = last;
     }
     words[12] = fine.last_scan_origin() as u64;
     words

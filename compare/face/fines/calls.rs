@@ -1,6 +1,6 @@
 //! The calls of the fine stage, made: what the face answers, and what the original does.
 
-use super::beside;
+use super::beside::{self, Original};
 use super::shape::Call;
 use super::world::World;
 use crate::delay::{DelayEstimator, WindowSupport};
@@ -39,22 +39,24 @@ pub fn face(w: &mut World, call: &Call) -> u32 {
 }
 
 /// Does the same with the original: the number of the case, and the values that go with it.
-pub fn original(w: &World, call: &Call, fine: &mut DelayEstimator) -> (u32, Vec<u64>) {
+pub fn original(w: &World, call: &Call, original: &mut Original) -> (u32, Vec<u64>) {
+    let fine = &mut original.fine;
     match *call {
-        Call::New(span) => *fine = beside::new(span),
+        Call::New(span) => *original = Original::new(span),
         Call::Restart => fine.restart(),
         Call::Relocate(origin) => fine.relocate(origin as usize),
         Call::Reset => fine.reset(),
         Call::PushNear(sample) => return (16 + fine.push_near(sample) as u32, vec![]),
         Call::Gate { head, tail } => return (gate(w, fine, head, tail), vec![]),
-        Call::Rescan { head, tail } => return (rescan(w, fine, head, tail), vec![]),
-        Call::Peak => return peak(w, fine),
-        _ => return report(w, call, fine),
+        Call::Rescan { head, tail } => return (rescan(w, original, head, tail), vec![]),
+        Call::Peak => return peak(w, original),
+        _ => return report(w, call, original),
     }
     (16, vec![])
 }
 
-fn report(w: &World, call: &Call, fine: &DelayEstimator) -> (u32, Vec<u64>) {
+fn report(w: &World, call: &Call, original: &Original) -> (u32, Vec<u64>) {
+    let fine = &original.fine;
     let value = match call {
         Call::FrameLen => fine.frame_len() as u64,
         Call::WindowLen => fine.window_len() as u64,
@@ -64,30 +66,38 @@ fn report(w: &World, call: &Call, fine: &DelayEstimator) -> (u32, Vec<u64>) {
             let (first, last) = fine.search_range();
             return (16, vec![first as u64, last as u64]);
         }
-        Call::Frames => beside::stored(w, fine)[6],
-        Call::Skipped => beside::stored(w, fine)[7],
-        Call::Scans => beside::stored(w, fine)[8],
+        Call::Frames => beside::stored(w, original)[6],
+        Call::Skipped => beside::stored(w, original)[7],
+        Call::Scans => beside::stored(w, original)[8],
         Call::LastScanRatio => fine.last_scan_ratio().to_bits(),
         Call::LastScanOrigin => fine.last_scan_origin() as u64,
-        Call::LastScanPeakAt => match fine.last_scan_peak_at() {
+        Call::LastScanPeakAt => match original.peak_at() {
             None => return (16, vec![]),
-            Some(at) => return (17, vec![at as u64]),
+            Some(positions) => return (17, positions.to_vec()),
         },
         _ => unreachable!("no report"),
     };
     (16, vec![value])
 }
 
-fn peak(w: &World, fine: &mut DelayEstimator) -> (u32, Vec<u64>) {
+/// Without a candidate the first value and the third are as they were.
+fn peak(w: &World, original: &mut Original) -> (u32, Vec<u64>) {
+    let fine = &mut original.fine;
     let span = fine.max_delay();
     let searched = &w.correlation.lent()[..=span];
     fine.correlation().copy_from_slice(searched);
-    match fine.peak_rule().candidate {
-        None => (16, vec![]),
-        Some(lock) => (
-            17,
-            vec![lock.delay as u64, lock.peak_at as u64, lock.ratio.to_bits()],
-        ),
+    let candidate = fine.peak_rule().candidate;
+    let last = original.note_last();
+    match candidate {
+        None => {
+            let first = original.fine.last_scan_peak_at().expect("a scan") as u64;
+            let before = w.values.before();
+            (16, vec![before[0], first, before[2], last])
+        }
+        Some(lock) => {
+            let (delay, first) = (lock.delay as u64, lock.peak_at as u64);
+            (17, vec![delay, first, lock.ratio.to_bits(), last])
+        }
     }
 }
 
@@ -112,7 +122,8 @@ fn gate(w: &World, fine: &mut DelayEstimator, head: u64, tail: u64) -> u32 {
 }
 
 /// The original does not say why a rescan was left: the same frame at its gate does.
-fn rescan(w: &World, fine: &mut DelayEstimator, head: u64, tail: u64) -> u32 {
+fn rescan(w: &World, original: &mut Original, head: u64, tail: u64) -> u32 {
+    let fine = &mut original.fine;
     let retained = fine.fields().retained;
     let scored = fine.rescan(w.far.lent(), support(head, tail)).scored;
     let mut answer = 19;
@@ -123,6 +134,6 @@ fn rescan(w: &World, fine: &mut DelayEstimator, head: u64, tail: u64) -> u32 {
         fine.observe(w.far.lent(), support(head, tail));
         answer = if fine.skipped() == 1 { 17 } else { 18 };
     }
-    beside::bring(w, fine);
+    beside::bring(w, original);
     answer
 }

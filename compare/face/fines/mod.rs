@@ -9,15 +9,15 @@ pub mod world;
 
 use crate::changes::{lend, set};
 use crate::course::{Case, Walker};
-use crate::delay::DelayEstimator;
 use crate::random::Random;
 use crate::rules::Judged;
 use crate::trial::{Subject, Tried};
+use beside::Original;
 use shape::{Call, List};
 use world::World;
 
 pub struct Fine {
-    original: DelayEstimator,
+    original: Original,
 }
 
 impl Subject for Fine {
@@ -38,7 +38,7 @@ impl Subject for Fine {
     }
 
     fn holds(&self, w: &World, list: List) -> bool {
-        beside::holds(w, &self.original, list)
+        beside::holds(w, &self.original.fine, list)
     }
 }
 
@@ -68,16 +68,32 @@ impl Walker for Fine {
             call: Call::LastScanRatio,
             answer: (16, &[SIGNALLING]),
         },
+        Case {
+            name: "the peak rule on zeros, span 1: first 0, last 1, the other values left",
+            changes: &[set(List::Values, 0, 70), set(List::Values, 2, 72)],
+            call: Call::Peak,
+            answer: (16, &[70, 0, 72, 1]),
+        },
+        Case {
+            name: "the last scan's peak stood first at 7 and last at 3",
+            changes: &[
+                set(List::State, 10, 1),
+                set(List::State, 11, 7),
+                set(List::State, 13, 3),
+            ],
+            call: Call::LastScanPeakAt,
+            answer: (17, &[7, 3]),
+        },
     ];
 
     fn new() -> (Fine, World) {
-        let original = beside::new(1);
+        let original = Original::new(1);
         (Fine { original }, World::new(1))
     }
 
     fn begin(&mut self, random: &mut Random) -> World {
         let span = choose::span(random);
-        self.original = beside::new(span);
+        self.original = Original::new(span);
         World::with_more(span, random.one_of(&[0, 0, 1, 40]))
     }
 

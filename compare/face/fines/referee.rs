@@ -1,4 +1,4 @@
-//! Which refusal is due: document 01's table, order and state rules, and what the C header says of lists and words. Nothing of the core's source, and of the
+//! Which refusal is due: the scope paper's table, order and state rules, and what the C header says of lists and words. Nothing of the core's source, and of the
 //! calls only their shape.
 
 use super::shape::{Call, List};

@@ -62,7 +62,7 @@ impl shape::Call for Call {
             Call::PushNear(_) => ("push_near", &[State, Near], 0),
             Call::Gate { .. } => ("gate", &[State, Near, Retained, Far], 0),
             Call::Rescan { .. } => ("rescan", &[State, Retained, Far], 0),
-            Call::Peak => ("peak", &[State, Correlation, Values], 3),
+            Call::Peak => ("peak", &[State, Correlation, Values], 4),
             Call::FrameLen => ("state_frame_len", &[State, Values], 1),
             Call::WindowLen => ("state_window_len", &[State, Values], 1),
             Call::MaxDelay => ("max_delay", &[State, Values], 1),
@@ -71,7 +71,7 @@ impl shape::Call for Call {
             Call::Frames => ("frames", &[State, Values], 1),
             Call::Skipped => ("skipped", &[State, Values], 1),
             Call::LastScanRatio => ("last_scan_ratio", &[State, Values], 1),
-            Call::LastScanPeakAt => ("last_scan_peak_at", &[State, Values], 1),
+            Call::LastScanPeakAt => ("last_scan_peak_at", &[State, Values], 2),
             Call::LastScanOrigin => ("last_scan_origin", &[State, Values], 1),
             Call::Scans => ("scans", &[State, Values], 1),
         };

@@ -5,7 +5,7 @@ use crate::lent::Lent;
 use crate::lists::lists;
 use crate::rules::Lengths;
 
-pub const WORDS: usize = 13;
+pub const WORDS: usize = 14;
 
 pub struct World {
     pub state: Lent<u64>,
@@ -20,7 +20,7 @@ lists!(World, Call, List:
     State state, Values values, Near near, Retained retained, Far far, Correlation correlation);
 
 impl World {
-    /// A new state, as document 01 has it.
+    /// A new state, as the scope paper has it.
     pub fn new(span: u32) -> World {
         World::with_more(span, 0)
     }

@@ -1,5 +1,6 @@
 -- Every public call: its contract admits one result.
-use Rattle.answers.proofs.Once.{Determined, once}
+use Rattle.answers.specs.Once.{Determined}
+use Rattle.answers.proofs.Once.{once}
 use Rattle.fine.proofs.Fine.new.Kinds as new-kinds
 use Rattle.fine.proofs.Fine.new.Reads as new-reads
 use Rattle.fine.proofs.Fine.restart.Kinds as restart-kinds

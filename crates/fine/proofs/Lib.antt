@@ -2,4 +2,5 @@
 pub mod Powers
 pub mod Laws
 pub mod Numbers
+pub mod Faithful
 pub mod Determined

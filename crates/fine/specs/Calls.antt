@@ -1,4 +1,4 @@
--- The calls that are lent no buffer: making, restart, relocate and reset, which clear what delay.rs says, and the reports.
+-- Defines the calls that are lent no buffer: making, restart, relocate and reset, which clear what delay.rs says, and the reports.
 use Prim.Native.Nat.{ℕ, _+_}
 use mathlib.Core.Bool.{Bool, true}
 use lib.Dec.{ltb}
@@ -6,6 +6,9 @@ use lib.Ieee.{Float}
 use Rattle.answers.specs.Pick.{pick}
 use Rattle.answers.specs.Refusals.{require, before, ifRefused, none, outsideTable, tooLarge}
 use Rattle.answers.specs.Numbers.{limit, allowedSpan}
+use Rattle.answers.specs.Answers.{counted}
+use Rattle.answers.specs.declared.Change.the-variants as change
+use Rattle.answers.specs.declared.Count.{Count}
 use Rattle.units.specs.Units.{samples}
 use Rattle.units.specs.declared.Samples.{Samples}
 use Rattle.fine.specs.State.{windowOf, lengthsOf, newWith, spanOf, firstRefusals}
@@ -13,28 +16,24 @@ use Rattle.fine.specs.declared.Frames.{Frames}
 use Rattle.fine.specs.declared.Position.{Position}
 use Rattle.fine.specs.declared.Fine.{Fine}
 use Rattle.fine.specs.declared.Range.{Range}
-use Rattle.fine.specs.declared.Change.{Change}
-use Rattle.fine.specs.declared.Change.the-variants as change
 use Rattle.fine.specs.declared.Changed.{Changed}
 use Rattle.fine.specs.declared.SamplesReport.{SamplesReport}
 use Rattle.fine.specs.declared.SamplesReport.the-variants as samplesReport
 use Rattle.fine.specs.declared.RangeReport.{RangeReport}
 use Rattle.fine.specs.declared.RangeReport.the-variants as rangeReport
-use Rattle.fine.specs.declared.CountReport.{CountReport}
-use Rattle.fine.specs.declared.CountReport.the-variants as countReport
 use Rattle.fine.specs.declared.RatioReport.{RatioReport}
 use Rattle.fine.specs.declared.RatioReport.the-variants as ratioReport
 use Rattle.fine.specs.declared.PositionReport.{PositionReport}
 use Rattle.fine.specs.declared.PositionReport.the-variants as positionReport
 
--- a call that changes the state `given` to `next`, or is refused and returns the one given
+-- A call changes the state `given` to `next`, or is refused and returns the one given.
 unfoldable pub changed : ℕ → Fine → Fine → Changed
 changed refusal given next =
     ifRefused refusal
     (record { fine = given; answer = change.Refused refusal })
     (record { fine = next; answer = change.Done })
 
--- ---- a making. Refused, it returns the state for span 1.
+-- ---- making a state. A refused making returns the state for span 1.
 
 unfoldable pub makingRefusal : ℕ → ℕ
 makingRefusal span = require (allowedSpan span) outsideTable none
@@ -44,15 +43,15 @@ made span = changed (makingRefusal span) (newWith (lengthsOf 1)) (newWith (lengt
 
 -- ---- restart, relocate and reset
 
--- no buffer is lent: refusals 1 and 3
+-- No buffer is lent, so only 1 and 3 can be refused.
 unfoldable pub stateRefusal : Fine → ℕ
 stateRefusal s = firstRefusals s true
 
--- the near frame and the frames taken, as new; a retained frame stays, and so do the frames skipped
+-- Empties the near frame and sets the count of frames taken to 0. A retained frame stays, and so does the count of frames skipped.
 abbrev pub restartedFrames : Frames → Frames
 restartedFrames f = record { len = 0; retained = f .retained; taken = 0; skipped = f .skipped }
 
--- the same, searching from an origin on
+-- Does the same, and searches from this origin on.
 abbrev pub restartedAt : Fine → Samples → Fine
 restartedAt s origin = record { lengths = s .lengths; origin = origin; frames = restartedFrames (s .frames); scans = s .scans }
 
@@ -68,7 +67,7 @@ relocateRefusal s origin =
 unfoldable pub relocated : Fine → Samples → Changed
 relocated s origin = changed (relocateRefusal s origin) s (restartedAt s origin)
 
--- the state as it was made
+-- Returns the state as it was made.
 unfoldable pub wasReset : Fine → Changed
 wasReset s = changed (stateRefusal s) s (newWith (s .lengths))
 
@@ -76,9 +75,6 @@ wasReset s = changed (stateRefusal s) s (newWith (s .lengths))
 
 unfoldable pub samplesReported : ℕ → Samples → SamplesReport
 samplesReported refusal n = ifRefused refusal (samplesReport.Refused refusal) (samplesReport.Is n)
-
-unfoldable pub countReported : ℕ → ℕ → CountReport
-countReported refusal n = ifRefused refusal (countReport.Refused refusal) (countReport.Is n)
 
 unfoldable pub frameLen : Fine → SamplesReport
 frameLen s = samplesReported (stateRefusal s) (samples (s .lengths .frame))
@@ -89,59 +85,33 @@ windowLen s = samplesReported (stateRefusal s) (samples (s .lengths .frame + spa
 unfoldable pub maxDelay : Fine → SamplesReport
 maxDelay s = samplesReported (stateRefusal s) (samples (spanOf s))
 
--- how far back from the near frame's start the far window starts (the Rust's comment says end; its acquirer takes it from the start)
+-- Tells how far the far window's start lies before the near frame's start. (The Rust's comment says end, but its acquirer counts from the start.)
 unfoldable pub windowBackOff : Fine → SamplesReport
 windowBackOff s = samplesReported (stateRefusal s) (samples (s .origin .0 + spanOf s))
 
--- the origin of the last scan
+-- Tells the origin of the last scan.
 unfoldable pub lastScanOrigin : Fine → SamplesReport
 lastScanOrigin s = samplesReported (stateRefusal s) (s .scans .origin)
 
--- the delays searched, both ends counted
+-- Gives the first and the last delay searched.
 abbrev pub rangeOf : Fine → Range
 rangeOf s = record { first = s .origin; last = samples (s .origin .0 + spanOf s) }
 
 unfoldable pub searchRange : Fine → RangeReport
 searchRange s = ifRefused (stateRefusal s) (rangeReport.Refused (stateRefusal s)) (rangeReport.Is (rangeOf s))
 
--- the frames taken against the current origin
-unfoldable pub framesOf : Fine → CountReport
-framesOf s = countReported (stateRefusal s) (s .frames .taken)
+-- Counts the frames taken at the current origin.
+unfoldable pub framesOf : Fine → Count
+framesOf s = counted (stateRefusal s) (s .frames .taken)
 
-unfoldable pub skippedOf : Fine → CountReport
-skippedOf s = countReported (stateRefusal s) (s .frames .skipped)
+unfoldable pub skippedOf : Fine → Count
+skippedOf s = counted (stateRefusal s) (s .frames .skipped)
 
-unfoldable pub scansOf : Fine → CountReport
-scansOf s = countReported (stateRefusal s) (s .scans .count)
+unfoldable pub scansOf : Fine → Count
+scansOf s = counted (stateRefusal s) (s .scans .count)
 
 unfoldable pub lastScanRatio : Fine → RatioReport
 lastScanRatio s = ifRefused (stateRefusal s) (ratioReport.Refused (stateRefusal s)) (ratioReport.Is (s .scans .ratio))
 
 unfoldable pub lastScanPeakAt : Fine → PositionReport
 lastScanPeakAt s = ifRefused (stateRefusal s) (positionReport.Refused (stateRefusal s)) (positionReport.Is (s .scans .«peak_at»))
-
--- ---- the refusal number of an answer, and none of one that is no refusal
-
-abbrev pub changeNumber : Change → ℕ
-changeNumber (change.Refused n) = n
-changeNumber change.Done = none
-
-abbrev pub samplesNumber : SamplesReport → ℕ
-samplesNumber (samplesReport.Refused n) = n
-samplesNumber (samplesReport.Is d) = none
-
-abbrev pub rangeNumber : RangeReport → ℕ
-rangeNumber (rangeReport.Refused n) = n
-rangeNumber (rangeReport.Is r) = none
-
-abbrev pub countNumber : CountReport → ℕ
-countNumber (countReport.Refused n) = n
-countNumber (countReport.Is k) = none
-
-abbrev pub ratioNumber : RatioReport → ℕ
-ratioNumber (ratioReport.Refused n) = n
-ratioNumber (ratioReport.Is x) = none
-
-abbrev pub positionNumber : PositionReport → ℕ
-positionNumber (positionReport.Refused n) = n
-positionNumber (positionReport.Is k) = none

@@ -1,3 +1,4 @@
--- The fine stage of document 01, as definitions on values: its state, and the calls that are lent no buffer.
+-- Defines the fine stage of SPECIFICATION 9 on values: its state, the calls that are lent no buffer, and what their answers tell.
 pub mod State
 pub mod Calls
+pub mod Told

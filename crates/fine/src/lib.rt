@@ -1,20 +1,22 @@
-// The fine stage's state: making, restart, relocation, reset and reports. The gate on near frames and the peak rule stand in the crates above.
-// The state goes in by value and comes back. No call has a `requires`: it refuses by number, and then hands back the state that it was given.
+// The fine stage's state: making, restart, relocation, reset and reports. The crates above have the gate on near frames and the peak rule.
+// The state goes in by value and comes back by value. No call has a `requires`: a bad call is refused by number and hands back the state that it was given.
 // Each contract is one equation with a definition of specs/.
 ghost use mathlib.Core.Path.{_≡_};
 ghost use Prim.Native.Nat.{_≤_};
 ghost use Rattle.fine.specs.State.{leastPower, transformOf, lengthsOf, newWith, withFrames, sameLengths, keepsRules, firstRefusals};
-ghost use Rattle.fine.specs.Calls.{changed, made, stateRefusal, restartedAt, restarted, relocateRefusal, relocated, wasReset, samplesReported, countReported, frameLen, windowLen, maxDelay, windowBackOff, searchRange, framesOf, skippedOf, lastScanRatio, lastScanPeakAt, lastScanOrigin, scansOf};
+ghost use Rattle.fine.specs.Calls.{changed, made, stateRefusal, restartedAt, restarted, relocateRefusal, relocated, wasReset, samplesReported, frameLen, windowLen, maxDelay, windowBackOff, searchRange, framesOf, skippedOf, lastScanRatio, lastScanPeakAt, lastScanOrigin, scansOf};
+use answers::Change;
+use answers::Count;
 use units::Samples;
 
-// The span, and what follows from it: the transform length and the near frame's length. All in samples.
+// The span, and what follows from it: the transform length and the near frame's length. All are in samples.
 pub struct Lengths {
     pub span: u32,
     pub transform: u64,
     pub frame: u64,
 }
 
-// How long the near frame under way is, whether a frame is retained, and how many frames were taken at this origin and skipped in all.
+// The length of the near frame under way, whether a frame is retained, how many frames were taken at this origin, and how many were skipped in all.
 pub struct Frames {
     pub len: u64,
     pub retained: bool,
@@ -22,12 +24,18 @@ pub struct Frames {
     pub skipped: u32,
 }
 
-pub enum Position {
-    Nothing,
-    At(u64),
+// The first and the last position of a scan's greatest height. They differ if it is a tie.
+pub struct Positions {
+    pub first: u64,
+    pub last: u64,
 }
 
-// How many scans there were; of the last one the peak's ratio to the mean, where the peak stood, and the origin then.
+pub enum Position {
+    Nothing,
+    At(Positions),
+}
+
+// How many scans there were, and the last one's ratio of peak to mean, its peak's position, and its origin.
 pub struct Scans {
     pub count: u64,
     pub ratio: f64,
@@ -42,21 +50,15 @@ pub struct Fine {
     pub scans: Scans,
 }
 
-// Delays, both ends counted.
+// A range of delays that includes both ends.
 pub struct Range {
     pub first: Samples,
     pub last: Samples,
 }
 
-// ---- answers. A refusal carries its number of document 01.
+// ---- answers. A refusal carries its number (SPECIFICATION 3).
 
-// Of a making, a restart, a relocation and a reset.
-pub enum Change {
-    Refused(u8),
-    Done,
-}
-
-// Of a report.
+// The answer of a report that is not a count.
 pub enum SamplesReport {
     Refused(u8),
     Is(Samples),
@@ -65,11 +67,6 @@ pub enum SamplesReport {
 pub enum RangeReport {
     Refused(u8),
     Is(Range),
-}
-
-pub enum CountReport {
-    Refused(u8),
-    Is(u64),
 }
 
 pub enum RatioReport {
@@ -91,7 +88,7 @@ pub struct Changed {
 
 // ---- what follows from the span
 
-// The shortest transform; none is longer than 65,536, since no span passes 32,768.
+// The shortest transform. None is longer than 65,536, since no span exceeds 32,768.
 const MIN_FFT_LEN: u64 = 256;
 
 fn least_power(n: u64) -> u64
@@ -136,8 +133,6 @@ impl Lengths {
     }
 }
 
-// ---- the answers of calls that change the state, and of reports
-
 impl SamplesReport {
     fn of(refusal: u8, n: Samples) -> SamplesReport
         ensures { λ r. ⌜ r ≡ samplesReported refusal n ⌝ }
@@ -149,19 +144,8 @@ impl SamplesReport {
     }
 }
 
-impl CountReport {
-    fn of(refusal: u8, n: u64) -> CountReport
-        ensures { λ r. ⌜ r ≡ countReported refusal n ⌝ }
-    {
-        if refusal != 0 {
-            return CountReport::Refused(refusal);
-        }
-        CountReport::Is(n)
-    }
-}
-
 impl Fine {
-    // A state as it is made, with these lengths.
+    // Makes a new state with these lengths.
     fn new_with(lengths: Lengths) -> Fine
         ensures { λ r. ⌜ r ≡ newWith lengths ⌝ }
     {
@@ -183,7 +167,7 @@ impl Fine {
         }
     }
 
-    // The answer of a call that changes this state to `next`: a refused one hands this one back.
+    // Answers a call that changes this state to `next`; if it is refused, hands this state back.
     fn changed(self, refusal: u8, next: Fine) -> Changed
         ensures { λ r. ⌜ r ≡ changed refusal self next ⌝ }
     {
@@ -231,7 +215,7 @@ impl Fine {
         frames.len <= lengths.frame
     }
 
-    // Refusals 1, 2 and 3. `due` is what the span gives; `fitting` says whether each lent buffer is of its length.
+    // Gives refusals 1, 2 and 3. `due` is what the span gives; `fitting` says whether each lent buffer has its length.
     pub fn first_refusals(self, due: Lengths, fitting: bool) -> u8
         requires { ⌜ due ≡ lengthsOf (self .lengths .span) ⌝ }
         ensures { λ r. ⌜ r ≡ firstRefusals self fitting ⌝ }
@@ -258,7 +242,7 @@ impl Fine {
 
     // ---- making, restart, relocation, reset
 
-    // A state for delays of `span` samples from the origin on.
+    // Makes a state for delays of `span` samples from the origin on.
     pub fn new(span: u32) -> Changed
         ensures { λ r. ⌜ r ≡ made span ⌝ }
     {
@@ -293,7 +277,7 @@ impl Fine {
         }
     }
 
-    // Drops the near frame under way and the count of frames taken.
+    // Drops the near frame under way and sets the count of frames taken to 0.
     pub fn restart(self) -> Changed
         ensures { λ r. ⌜ r ≡ restarted self ⌝ }
     {
@@ -314,14 +298,14 @@ impl Fine {
         0
     }
 
-    // Searches from another origin on.
+    // Moves the search to another origin.
     pub fn relocate(self, origin: Samples) -> Changed
         ensures { λ r. ⌜ r ≡ relocated self origin ⌝ }
     {
         self.changed(self.relocate_refusal(origin), self.restarted_at(origin))
     }
 
-    // The state as it was made.
+    // Resets the state to what it was when it was made.
     pub fn reset(self) -> Changed
         ensures { λ r. ⌜ r ≡ wasReset self ⌝ }
     {
@@ -331,7 +315,7 @@ impl Fine {
 
     // ---- reports
 
-    // How many near samples make a frame.
+    // Reports how many near samples make a frame.
     pub fn frame_len(self) -> SamplesReport
         ensures { λ r. ⌜ r ≡ frameLen self ⌝ }
     {
@@ -339,7 +323,7 @@ impl Fine {
         SamplesReport::of(self.refusal(), Samples(lengths.frame))
     }
 
-    // How many far samples one frame needs.
+    // Reports how many far samples one frame needs.
     pub fn window_len(self) -> SamplesReport
         ensures { λ r. ⌜ r ≡ windowLen self ⌝ }
     {
@@ -351,7 +335,7 @@ impl Fine {
         SamplesReport::Is(Samples(lengths.frame + lengths.span as u64))
     }
 
-    // The span.
+    // Reports the span.
     pub fn max_delay(self) -> SamplesReport
         ensures { λ r. ⌜ r ≡ maxDelay self ⌝ }
     {
@@ -359,7 +343,7 @@ impl Fine {
         SamplesReport::of(self.refusal(), Samples(lengths.span as u64))
     }
 
-    // How far back from the near frame's start the far window starts.
+    // Reports how far the far window's start lies before the near frame's start.
     pub fn window_back_off(self) -> SamplesReport
         ensures { λ r. ⌜ r ≡ windowBackOff self ⌝ }
     {
@@ -372,7 +356,7 @@ impl Fine {
         SamplesReport::Is(Samples(origin.0 + lengths.span as u64))
     }
 
-    // The delays that are searched.
+    // Reports the delays that are searched.
     pub fn search_range(self) -> RangeReport
         ensures { λ r. ⌜ r ≡ searchRange self ⌝ }
     {
@@ -388,20 +372,20 @@ impl Fine {
         })
     }
 
-    // The frames taken at this origin.
-    pub fn frames(self) -> CountReport
+    // Counts the frames taken at this origin.
+    pub fn frames(self) -> Count
         ensures { λ r. ⌜ r ≡ framesOf self ⌝ }
     {
         let frames = self.frames;
-        CountReport::of(self.refusal(), frames.taken as u64)
+        Count::of(self.refusal(), frames.taken as u64)
     }
 
-    // The frames skipped since the making or the last reset.
-    pub fn skipped(self) -> CountReport
+    // Counts the frames skipped since the making or the last reset.
+    pub fn skipped(self) -> Count
         ensures { λ r. ⌜ r ≡ skippedOf self ⌝ }
     {
         let frames = self.frames;
-        CountReport::of(self.refusal(), frames.skipped as u64)
+        Count::of(self.refusal(), frames.skipped as u64)
     }
 
     pub fn last_scan_ratio(self) -> RatioReport
@@ -435,11 +419,11 @@ impl Fine {
         SamplesReport::of(self.refusal(), origin)
     }
 
-    // The scans since the making or the last reset.
-    pub fn scans(self) -> CountReport
+    // Counts the scans since the making or the last reset.
+    pub fn scans(self) -> Count
         ensures { λ r. ⌜ r ≡ scansOf self ⌝ }
     {
         let scans = self.scans;
-        CountReport::of(self.refusal(), scans.count)
+        Count::of(self.refusal(), scans.count)
     }
 }

@@ -4,7 +4,8 @@ use contract.Lifetimes.{Lfts}
 use denote.Ref.{now}
 use denote.Triple.Clauses.{AtExit}
 use borrow.Fn.Kinds.{Dens, resT, endedOf}
-use Rattle.answers.proofs.Once.{Determined, once}
+use Rattle.answers.specs.Once.{Determined}
+use Rattle.answers.proofs.Once.{once}
 use Rattle.fine_face.proofs.tmv_fine_words.Kinds as words-kinds
 use Rattle.fine_face.proofs.tmv_fine_words.Reads as words-reads
 use Rattle.fine_face.proofs.tmv_fine_frame_len.Kinds as frame-len-kinds

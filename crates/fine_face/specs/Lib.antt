@@ -1,2 +1,2 @@
--- What the calls answer and leave: a definition for each.
+-- Defines for each call what it answers and leaves.
 pub mod Calls

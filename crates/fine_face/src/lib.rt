@@ -1,4 +1,4 @@
-// The fine stage's calls. crates/fine_words/specs/Layout.antt says where each field of its state stands.
+// The fine stage's calls. crates/fine_words/specs/Layout.antt says where each field of its state is.
 use fine::Fine;
 use fine::Lengths;
 use fine_words::answering;
@@ -18,9 +18,9 @@ fn judge(state: &[u64], values_fit: bool) -> u32
     face::setting_first(answers::allowed_span(words::half(state[0], 0)), values_fit)
 }
 
-// ---- lengths, by the span; 0 where it is outside the table
+// ---- lengths, by the span; 0 if it is outside the table
 
-// How many words a fine state has.
+// Returns how many words a fine state has.
 #[no_mangle]
 pub extern "C" fn tmv_fine_words() -> u64
     ensures { λ r. ⌜ r ≡ fineWords ⌝ }
@@ -28,7 +28,7 @@ pub extern "C" fn tmv_fine_words() -> u64
     fine_words::WORDS as u64
 }
 
-// Of the near and of the retained frame.
+// Returns the length of the near and of the retained frame.
 #[no_mangle]
 pub extern "C" fn tmv_fine_frame_len(span: u32) -> u64
     ensures { λ r. ⌜ r ≡ lengthFor span (frameOf span) ⌝ }
@@ -40,7 +40,7 @@ pub extern "C" fn tmv_fine_frame_len(span: u32) -> u64
     lengths.frame
 }
 
-// Of the far window.
+// Returns the length of the far window.
 #[no_mangle]
 pub extern "C" fn tmv_fine_window_len(span: u32) -> u64
     ensures { λ r. ⌜ r ≡ lengthFor span (windowOf span) ⌝ }
@@ -52,7 +52,7 @@ pub extern "C" fn tmv_fine_window_len(span: u32) -> u64
     lengths.frame + span as u64
 }
 
-// Of the correlation, at least.
+// Returns the least length of the correlation.
 #[no_mangle]
 pub extern "C" fn tmv_fine_correlation_len(span: u32) -> u64
     ensures { λ r. ⌜ r ≡ lengthFor span (span + 1) ⌝ }
@@ -65,7 +65,7 @@ pub extern "C" fn tmv_fine_correlation_len(span: u32) -> u64
 
 // ---- calls that change the state
 
-// A state for delays of `span` samples from the origin on.
+// Makes a state for delays of `span` samples from the origin on.
 #[no_mangle]
 pub extern "C" fn tmv_fine_new(state: &mut [u64], span: u32) -> u32
     ensures number { λ r. ⌜ r ≡ newCalled (now (state .entry)) span .number ⌝ }
@@ -81,7 +81,7 @@ pub extern "C" fn tmv_fine_new(state: &mut [u64], span: u32) -> u32
     answering::settle_change(state, Fine::new(span))
 }
 
-// Drops the near frame under way and the count of frames taken.
+// Drops the near frame under way and sets the count of frames taken to 0.
 #[no_mangle]
 pub extern "C" fn tmv_fine_restart(state: &mut [u64]) -> u32
     ensures number { λ r. ⌜ r ≡ restartCalled (now (state .entry)) .number ⌝ }
@@ -94,7 +94,7 @@ pub extern "C" fn tmv_fine_restart(state: &mut [u64]) -> u32
     answering::settle_change(state, fine_words::load(state).restart())
 }
 
-// Searches from another origin on.
+// Moves the search to another origin.
 #[no_mangle]
 pub extern "C" fn tmv_fine_relocate(state: &mut [u64], origin: u64) -> u32
     ensures number { λ r. ⌜ r ≡ relocateCalled (now (state .entry)) origin .number ⌝ }
@@ -107,7 +107,7 @@ pub extern "C" fn tmv_fine_relocate(state: &mut [u64], origin: u64) -> u32
     answering::settle_change(state, fine_words::load(state).relocate(Samples(origin)))
 }
 
-// The state as it was made.
+// Resets the state to what it was when it was made.
 #[no_mangle]
 pub extern "C" fn tmv_fine_reset(state: &mut [u64]) -> u32
     ensures number { λ r. ⌜ r ≡ resetCalled (now (state .entry)) .number ⌝ }
@@ -168,7 +168,7 @@ pub extern "C" fn tmv_fine_gate(
     fine_words::settle(state, answering::gate_number(answer), next)
 }
 
-// Says whether the retained frame counts against another far window. Nothing is counted and nothing forgotten.
+// Says whether the retained frame counts with another far window. Counts nothing and forgets nothing.
 #[no_mangle]
 pub extern "C" fn tmv_fine_rescan(
     state: &[u64],
@@ -194,7 +194,8 @@ pub extern "C" fn tmv_fine_rescan(
     answering::rescan_number(answer)
 }
 
-// Searches the host's correlation for a candidate: its delay, the peak's position and the ratio's pattern.
+// Searches the host's correlation for a candidate. Writes its delay, the peak's first position, the ratio's pattern and the peak's last position. Without
+// a candidate it writes only the two positions.
 #[no_mangle]
 pub extern "C" fn tmv_fine_peak(state: &mut [u64], correlation: &[f32], values: &mut [u64]) -> u32
     ensures number { λ r. ⌜ r ≡ peakCalled (now (state .entry)) (now (correlation .entry)) (now (values .entry)) .number ⌝ }
@@ -213,7 +214,7 @@ pub extern "C" fn tmv_fine_peak(state: &mut [u64], correlation: &[f32], values: 
 
 // ---- reports
 
-// How many near samples make a frame of this state.
+// Reports how many near samples make a frame of this state.
 #[no_mangle]
 pub extern "C" fn tmv_fine_state_frame_len(state: &[u64], values: &mut [u64]) -> u32
     ensures number { λ r. ⌜ r ≡ stateFrameLenCalled (now (state .entry)) (now (values .entry)) .number ⌝ }
@@ -226,7 +227,7 @@ pub extern "C" fn tmv_fine_state_frame_len(state: &[u64], values: &mut [u64]) ->
     answering::tell_samples(values, fine_words::load(state).frame_len())
 }
 
-// How many far samples one frame of this state needs.
+// Reports how many far samples one frame of this state needs.
 #[no_mangle]
 pub extern "C" fn tmv_fine_state_window_len(state: &[u64], values: &mut [u64]) -> u32
     ensures number { λ r. ⌜ r ≡ stateWindowLenCalled (now (state .entry)) (now (values .entry)) .number ⌝ }
@@ -239,7 +240,7 @@ pub extern "C" fn tmv_fine_state_window_len(state: &[u64], values: &mut [u64]) -
     answering::tell_samples(values, fine_words::load(state).window_len())
 }
 
-// The span.
+// Reports the span.
 #[no_mangle]
 pub extern "C" fn tmv_fine_max_delay(state: &[u64], values: &mut [u64]) -> u32
     ensures number { λ r. ⌜ r ≡ maxDelayCalled (now (state .entry)) (now (values .entry)) .number ⌝ }
@@ -252,7 +253,7 @@ pub extern "C" fn tmv_fine_max_delay(state: &[u64], values: &mut [u64]) -> u32
     answering::tell_samples(values, fine_words::load(state).max_delay())
 }
 
-// How far back from the near frame's end the far window starts.
+// Reports how far the far window's start lies before the near frame's start.
 #[no_mangle]
 pub extern "C" fn tmv_fine_window_back_off(state: &[u64], values: &mut [u64]) -> u32
     ensures number { λ r. ⌜ r ≡ windowBackOffCalled (now (state .entry)) (now (values .entry)) .number ⌝ }
@@ -265,7 +266,7 @@ pub extern "C" fn tmv_fine_window_back_off(state: &[u64], values: &mut [u64]) ->
     answering::tell_samples(values, fine_words::load(state).window_back_off())
 }
 
-// The first and the last delay that are searched.
+// Reports the first and the last delay that are searched.
 #[no_mangle]
 pub extern "C" fn tmv_fine_search_range(state: &[u64], values: &mut [u64]) -> u32
     ensures number { λ r. ⌜ r ≡ searchRangeCalled (now (state .entry)) (now (values .entry)) .number ⌝ }
@@ -278,7 +279,7 @@ pub extern "C" fn tmv_fine_search_range(state: &[u64], values: &mut [u64]) -> u3
     answering::tell_range(values, fine_words::load(state).search_range())
 }
 
-// The frames taken at this origin.
+// Counts the frames taken at this origin.
 #[no_mangle]
 pub extern "C" fn tmv_fine_frames(state: &[u64], values: &mut [u64]) -> u32
     ensures number { λ r. ⌜ r ≡ framesCalled (now (state .entry)) (now (values .entry)) .number ⌝ }
@@ -288,10 +289,10 @@ pub extern "C" fn tmv_fine_frames(state: &[u64], values: &mut [u64]) -> u32
     if refusal != 0 {
         return refusal;
     }
-    answering::tell_count(values, fine_words::load(state).frames())
+    words::tell_count(values, fine_words::load(state).frames())
 }
 
-// The frames skipped since the making or the last reset.
+// Counts the frames skipped since the making or the last reset.
 #[no_mangle]
 pub extern "C" fn tmv_fine_skipped(state: &[u64], values: &mut [u64]) -> u32
     ensures number { λ r. ⌜ r ≡ skippedCalled (now (state .entry)) (now (values .entry)) .number ⌝ }
@@ -301,10 +302,10 @@ pub extern "C" fn tmv_fine_skipped(state: &[u64], values: &mut [u64]) -> u32
     if refusal != 0 {
         return refusal;
     }
-    answering::tell_count(values, fine_words::load(state).skipped())
+    words::tell_count(values, fine_words::load(state).skipped())
 }
 
-// The ratio of the last scan, as its pattern.
+// Reports the ratio of the last scan, as its pattern.
 #[no_mangle]
 pub extern "C" fn tmv_fine_last_scan_ratio(state: &[u64], values: &mut [u64]) -> u32
     ensures number { λ r. ⌜ r ≡ lastScanRatioCalled (now (state .entry)) (now (values .entry)) .number ⌝ }
@@ -317,20 +318,20 @@ pub extern "C" fn tmv_fine_last_scan_ratio(state: &[u64], values: &mut [u64]) ->
     answering::tell_ratio(values, state[9], fine_words::load(state).last_scan_ratio())
 }
 
-// Where the peak of the last scan stood, if there was one.
+// Reports the first and the last position of the last scan's peak, if there was a scan.
 #[no_mangle]
 pub extern "C" fn tmv_fine_last_scan_peak_at(state: &[u64], values: &mut [u64]) -> u32
     ensures number { λ r. ⌜ r ≡ lastScanPeakAtCalled (now (state .entry)) (now (values .entry)) .number ⌝ }
     ensures values { λ r. ⌜ now (values .exit) ≡ lastScanPeakAtCalled (now (state .entry)) (now (values .entry)) .values ⌝ }
 {
-    let refusal = judge(state, values.len() == words::ONE_VALUE);
+    let refusal = judge(state, values.len() == answering::PLACE_VALUES);
     if refusal != 0 {
         return refusal;
     }
     answering::tell_position(values, fine_words::load(state).last_scan_peak_at())
 }
 
-// The origin of the last scan.
+// Reports the origin of the last scan.
 #[no_mangle]
 pub extern "C" fn tmv_fine_last_scan_origin(state: &[u64], values: &mut [u64]) -> u32
     ensures number { λ r. ⌜ r ≡ lastScanOriginCalled (now (state .entry)) (now (values .entry)) .number ⌝ }
@@ -343,7 +344,7 @@ pub extern "C" fn tmv_fine_last_scan_origin(state: &[u64], values: &mut [u64]) -
     answering::tell_samples(values, fine_words::load(state).last_scan_origin())
 }
 
-// The scans since the making or the last reset.
+// Counts the scans since the making or the last reset.
 #[no_mangle]
 pub extern "C" fn tmv_fine_scans(state: &[u64], values: &mut [u64]) -> u32
     ensures number { λ r. ⌜ r ≡ scansCalled (now (state .entry)) (now (values .entry)) .number ⌝ }
@@ -353,5 +354,5 @@ pub extern "C" fn tmv_fine_scans(state: &[u64], values: &mut [u64]) -> u32
     if refusal != 0 {
         return refusal;
     }
-    answering::tell_count(values, fine_words::load(state).scans())
+    words::tell_count(values, fine_words::load(state).scans())
 }

@@ -1,5 +1,6 @@
 -- The public call: its contract admits one result.
-use Rattle.answers.proofs.Once.{Determined, once}
+use Rattle.answers.specs.Once.{Determined}
+use Rattle.answers.proofs.Once.{once}
 use Rattle.fine_peak.proofs.peak.Kinds as peak-kinds
 use Rattle.fine_peak.proofs.peak.Reads as peak-reads
 

@@ -1,4 +1,4 @@
--- The peak of finite entries is the first of the greatest heights. Heights are compared as fractions of whole numbers.
+-- The crest of finite entries stands first at the first of the greatest heights. Heights are compared as fractions of whole numbers.
 use Prim.Native.Nat.{ℕ, zero, suc, _+_, _*_, _≤_, _<_}
 use mathlib.Core.Path.{_≡_, refl, sym, ap, _∙_, subst}
 use mathlib.Core.Logic.{_⊎_, inl, inr, ⊎-elim}
@@ -14,22 +14,24 @@ use lib.Ieee.Fits.{down-pos}
 use lib.Ieee.Positive.{through}
 use lib.Ieee.Scale.{finite}
 use borrow.Author.Tests.{lt-ltb, le-ltb, ltb-true, ltb-false, eq-eqb, eqb-true}
-use Rattle.answers.specs.Pick.{pick-case, pick-false, both}
+use Rattle.answers.specs.Pick.{pick, pick-case, both}
 use Rattle.floats.specs.Functions.{zero64, magnitude}
 use Rattle.floats.proofs.Compare.{le-or-lt}
 use Rattle.folds.specs.Sums.{allFinite, at}
 use Rattle.folds.specs.Search.{peak, meet, searchUp}
 use Rattle.folds.specs.declared.Peak.{Peak}
+use Rattle.fine.specs.State.{positions}
 use Rattle.fine.proofs.Laws.{both-hold}
-use Rattle.fine_peak.specs.Peak.{height, heightsOf}
-use Rattle.fine_peak.specs.Greatest.{FirstGreatest}
+use Rattle.fine_peak.specs.declared.Crest.{Crest}
+use Rattle.fine_peak.specs.Peak.{tie, crest, crestOf, height, heightsOf}
+use Rattle.fine_peak.specs.Greatest.{FirstGreatest, firstOf}
 
 -- ---- heights: finite, and not below +0
 
-data Height : Float → Type 0 where
+pub data Height : Float → Type 0 where
   at-height : (m : ℕ) (e : ℤ) → Height (fin false m e)
 
-is-height : (x : Float) → finite x ≡ true → Height (magnitude x)
+pub is-height : (x : Float) → finite x ≡ true → Height (magnitude x)
 unfolding magnitude
 is-height nan e = absurd (false≢true e)
 is-height (inf s) e = absurd (false≢true e)
@@ -57,12 +59,12 @@ not-above-itself : (x : Float) → Height x → lt x x ≡ false
 unfolding lt
 not-above-itself x (at-height a e) = le-ltb (a * up e * down e) (a * up e * down e) (le-refl (a * up e * down e))
 
-equals-itself : (x : Float) → Height x → eq x x ≡ true
+pub equals-itself : (x : Float) → Height x → eq x x ≡ true
 unfolding eq
 equals-itself x (at-height a e) = ap (λ (b : Bool). b && true) (eq-eqb (a * up e * down e) (a * up e * down e) refl)
 
 -- not above +0: so it is 0
-is-zero : (x : Float) → Height x → lt zero64 x ≡ false → eq zero64 x ≡ true
+pub is-zero : (x : Float) → Height x → lt zero64 x ≡ false → eq zero64 x ≡ true
 unfolding lt eq
 is-zero x (at-height a e) h =
     let l = ltb-false (0 * down e) (a * up e * 1) h in
@@ -73,11 +75,11 @@ is-zero x (at-height a e) h =
 -- as FirstGreatest, but for a search that passed nothing yet
 record Passed (t : ℕ → Float) (n : ℕ) (p : Peak) : Type 0 where
   is : Height (p .value)
-  stands : 0 < n → eq (p .value) (t (p .at)) ≡ true
-  within : 0 < n → p .at < n
+  stands : 0 < n → eq (p .value) (t (p .place)) ≡ true
+  within : 0 < n → p .place < n
   start : n ≡ 0 → p ≡ peak 0 zero64
   greatest : (k : ℕ) → k < n → lt (p .value) (t k) ≡ false
-  first : (k : ℕ) → k < p .at → lt (t k) (p .value) ≡ true
+  first : (k : ℕ) → k < p .place → lt (t k) (p .value) ≡ true
 
 -- what holds of each index below n, and of n
 each : (P : ℕ → Type 0) (n : ℕ) → ((k : ℕ) → k < n → P k) → P n → (k : ℕ) → k < suc n → P k
@@ -114,7 +116,7 @@ module _ (t : ℕ → Float) (n : ℕ) (p : Peak) (h : Passed t n p) (all : (k :
       none : n ≤ 0 → n ≡ 0
       none g = omega arith
 
-      held : (n ≤ 0) ⊎ (0 < n) → eq (p .value) (t (p .at)) ≡ true
+      held : (n ≤ 0) ⊎ (0 < n) → eq (p .value) (t (p .place)) ≡ true
       held (inl g) =
           let e = h .start (none g) in
           let z : lt zero64 (t n) ≡ false = rw e at l in
@@ -122,7 +124,7 @@ module _ (t : ℕ → Float) (n : ℕ) (p : Peak) (h : Passed t n p) (all : (k :
           rw e (rw (none g) at w)
       held (inr g) = h .stands g
 
-      inside : (n ≤ 0) ⊎ (0 < n) → p .at < suc n
+      inside : (n ≤ 0) ⊎ (0 < n) → p .place < suc n
       inside (inl g) = rw (h .start (none g)) (omega arith)
       inside (inr g) = omega (arith, h .within g)
 
@@ -143,40 +145,34 @@ searched t (suc n) all =
 
 -- ---- the peak of a correlation
 
-finite-at : (xs : List Float) (n k : ℕ) → n ≤ length xs → allFinite (take n xs) ≡ true → k < n → finite (at xs k) ≡ true
+pub finite-at : (xs : List Float) (n k : ℕ) → n ≤ length xs → allFinite (take n xs) ≡ true → k < n → finite (at xs k) ≡ true
 unfolding allFinite
 finite-at xs zero k l e h = absurd (not-suc-le-zero h)
 finite-at [] (suc n) k l e h = absurd (not-suc-le-zero l)
 finite-at (x ∷ xs) (suc n) zero l e h = both-hold _ _ e .0
 finite-at (x ∷ xs) (suc n) (suc k) l e h = finite-at xs n k (le-of-suc-le-suc l) (both-hold _ _ e .1) (le-of-suc-le-suc h)
 
--- the position is the smallest k of the greatest absolute value, and nothing exceeds it
+-- a crest's first position is what the search with strict > finds
+module _ (c : Crest) (k : ℕ) (x : Float) where
+  tie-by : (greater equal : Bool) → firstOf (pick greater (crest (positions k k) x) (pick equal (crest (positions (c .places .first) k) (c .value)) c)) ≡ pick greater (peak k x) (firstOf c)
+  unfolding pick
+  tie-by true equal = refl
+  tie-by false true = refl
+  tie-by false false = refl
+
+  tie-first : firstOf (tie c k x) ≡ meet (firstOf c) k x
+  tie-first = tie-by (lt (c .value) x) (eq (c .value) x)
+
+pub crest-first : (t : ℕ → Float) (n : ℕ) → firstOf (crestOf t n) ≡ searchUp t n
+unfolding crestOf searchUp
+crest-first t zero = refl
+crest-first t (suc n) = tie-first (crestOf t n) n (t n) ∙ ap (λ (p : Peak). meet p n (t n)) (crest-first t n)
+
+-- the first position is the smallest k of the greatest absolute value, and nothing exceeds it
 pub first-greatest : (correlation : List Float) (n : ℕ) → 0 < n → n ≤ length correlation → allFinite (take n correlation) ≡ true
-    → FirstGreatest (height correlation) n (heightsOf correlation n .peak)
+    → FirstGreatest (height correlation) n (firstOf (heightsOf correlation n .crest))
 unfolding heightsOf
 first-greatest correlation n z l e =
     let h = searched (height correlation) n (λ k g. is-height (at correlation k) (finite-at correlation n k l e g)) in
-    record { within = h .within z; stands = h .stands z; greatest = h .greatest; first = h .first }
-
--- with all zeros it is 0
-zero-not-above : (x : Float) → eq x zero64 ≡ true → lt zero64 (magnitude x) ≡ false
-unfolding eq lt magnitude
-zero-not-above nan e = absurd (false≢true e)
-zero-not-above (inf s) e = absurd (false≢true e)
-zero-not-above (fin s m x) e =
-    let a = eqb-true (m * up x * 1) (0 * down x) (left _ _ e) in
-    le-ltb (0 * down x) (m * up x * 1) (omega arith)
-  where
-    left : (a b : Bool) → (a && b) ≡ true → a ≡ true
-    left true b e = refl
-    left false b e = absurd (false≢true e)
-
-zeros : (correlation : List Float) (n : ℕ) → ((k : ℕ) → k < n → eq (at correlation k) zero64 ≡ true) → searchUp (height correlation) n ≡ peak 0 zero64
-unfolding searchUp
-zeros correlation zero h = refl
-zeros correlation (suc n) h =
-    rw (zeros correlation n (λ k g. h k (omega arith))) (pick-false _ _ _ (zero-not-above (at correlation n) (h n (omega arith))))
-
-pub all-zero : (correlation : List Float) (n : ℕ) → ((k : ℕ) → k < n → eq (at correlation k) zero64 ≡ true) → heightsOf correlation n .peak ≡ peak 0 zero64
-unfolding heightsOf
-all-zero correlation n h = zeros correlation n h
+    subst (FirstGreatest (height correlation) n) (sym (crest-first (height correlation) n))
+    (record { within = h .within z; stands = h .stands z; greatest = h .greatest; first = h .first })

@@ -12,26 +12,27 @@ use borrow.Author.Tests.{leb-true}
 use Rattle.answers.specs.Pick.{pick-all}
 use Rattle.answers.specs.Numbers.{limit}
 use Rattle.answers.proofs.Refusals.{passed-both}
-use Rattle.folds.specs.Search.{meet, searchUp}
-use Rattle.folds.specs.declared.Peak.{Peak}
 use Rattle.fine.specs.State.{Sound, spanOf, firstRefusals}
 use Rattle.fine.specs.declared.Fine.{Fine}
 use Rattle.fine.proofs.Laws.{accepted}
-use Rattle.fine_peak.specs.Peak.{height, heightsOf, peakRefusal}
+use Rattle.fine_peak.specs.Peak.{tie, crestOf, height, heightsOf, peakRefusal}
+use Rattle.fine_peak.specs.declared.Crest.{Crest}
 use Rattle.fine_peak.specs.declared.Heights.{Heights}
 
 -- the search goes on by one entry
-pub met-next : (t : ℕ → Float) (k : ℕ) (p : Peak) (x : Float) → p ≡ searchUp t k → x ≡ t k → meet p k x ≡ searchUp t (k + 1)
-unfolding searchUp
-met-next t k p x e h = rw add-one (cc)
+pub met-next : (t : ℕ → Float) (k : ℕ) (c : Crest) (x : Float) → c ≡ crestOf t k → x ≡ t k → tie c k x ≡ crestOf t (k + 1)
+unfolding crestOf
+met-next t k c x e h = rw add-one (cc)
 
 -- it finds a position that it passed
-pub found-within : (t : ℕ → Float) (n m : ℕ) → n ≤ suc m → searchUp t n .at ≤ m
-unfolding searchUp
+pub found-within : (t : ℕ → Float) (n m : ℕ) → n ≤ suc m → crestOf t n .places .first ≤ m
+unfolding crestOf
 found-within t zero m h = omega arith
-found-within t (suc n) m h = pick-all (λ (p : Peak). p .at ≤ m) _ _ _ (omega arith) (found-within t n m (omega arith))
+found-within t (suc n) m h =
+    let before = found-within t n m (omega arith) in
+    pick-all (λ (c : Crest). c .places .first ≤ m) _ _ _ (omega arith) (pick-all (λ (c : Crest). c .places .first ≤ m) _ _ _ before before)
 
-pub peak-within : (correlation : List Float) (span : ℕ) (h : Heights) → h ≡ heightsOf correlation (span + 1) → h .peak .at ≤ span
+pub peak-within : (correlation : List Float) (span : ℕ) (h : Heights) → h ≡ heightsOf correlation (span + 1) → h .crest .places .first ≤ span
 unfolding heightsOf
 peak-within correlation span h e =
     let f = found-within (height correlation) (span + 1) span (omega arith) in

@@ -5,12 +5,14 @@ use lib.Ieee.{Float}
 use Rattle.answers.specs.Pick.{pick-all}
 use Rattle.answers.specs.Refusals.{none}
 use Rattle.fine.specs.declared.Fine.{Fine}
+use Rattle.fine.specs.Told.{refusalTold}
 use Rattle.fine.proofs.Numbers.{told}
 use Rattle.fine_peak.specs.declared.PeakAnswer.{PeakAnswer}
 use Rattle.fine_peak.specs.declared.Searched.{Searched}
-use Rattle.fine_peak.specs.Peak.{ruled, peakRefusal, searched, peakNumber}
+use Rattle.fine_peak.specs.Peak.{ruled, peakRefusal, searched}
+use Rattle.fine_peak.specs.Told.{peakTold}
 
-pub searched-number : (s : Fine) (correlation : List Float) → peakNumber (searched s correlation .answer) ≡ peakRefusal s correlation
+pub searched-number : (s : Fine) (correlation : List Float) → refusalTold (peakTold (searched s correlation .answer)) ≡ peakRefusal s correlation
 unfolding searched ruled
 searched-number s correlation =
-    told (λ (r : Searched). peakNumber (r .answer)) (peakRefusal s correlation) _ _ refl (pick-all (λ (a : PeakAnswer). peakNumber a ≡ none) _ _ _ refl refl)
+    told (λ (r : Searched). refusalTold (peakTold (r .answer))) (peakRefusal s correlation) _ _ refl (pick-all (λ (a : PeakAnswer). refusalTold (peakTold a) ≡ none) _ _ _ refl refl)

@@ -1,3 +1,4 @@
--- The peak rule of document 01, as definitions on values, and what it is to be the first of the greatest.
+-- Defines the peak rule of SPECIFICATION 9 on values, what it means to be the first and the last of the greatest, and what the answer tells.
 pub mod Peak
 pub mod Greatest
+pub mod Told

@@ -1,6 +1,6 @@
 // The calls of records.
 use crate::records::Call;
-use fine::Change;
+use answers::Change;
 use fine::Changed;
 use fine::Fine;
 use fine::Frames;
@@ -128,7 +128,7 @@ fn push(fine: Fine, frame: &mut [f32], call: Call) -> Done {
     if call.kind == 2 {
         return push_run(fine, frame, call);
     }
-    let sample = recording::sample((call.number % 0x1_0000_0000) as u32);
+    let sample = floats::bits::float32((call.number % 0x1_0000_0000) as u32);
     push_near(fine, frame, sample)
 }
 

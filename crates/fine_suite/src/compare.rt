@@ -5,6 +5,7 @@ use fine::Fine;
 use fine::Frames;
 use fine::Lengths;
 use fine::Position;
+use fine::Positions;
 use fine::Scans;
 use fine_peak::Lock;
 use vectors::buffers;
@@ -13,7 +14,7 @@ ghost use Prim.Native.Nat.{_≤_};
 ghost use lib.ListN.{length};
 
 fn same_lengths(lengths: Lengths, bytes: &[u8]) -> bool
-    requires { ⌜ 128 ≤ length (now bytes) ⌝ }
+    requires { ⌜ 136 ≤ length (now bytes) ⌝ }
 {
     if lengths.frame != vectors::number(bytes, 120, 4) {
         return false;
@@ -22,7 +23,7 @@ fn same_lengths(lengths: Lengths, bytes: &[u8]) -> bool
 }
 
 fn same_frames(frames: Frames, bytes: &[u8]) -> bool
-    requires { ⌜ 128 ≤ length (now bytes) ⌝ }
+    requires { ⌜ 136 ≤ length (now bytes) ⌝ }
 {
     if frames.len != vectors::number(bytes, 44, 4) {
         return false;
@@ -36,18 +37,33 @@ fn same_frames(frames: Frames, bytes: &[u8]) -> bool
     frames.retained == records::flagged(bytes, 1)
 }
 
-fn same_position(p: Position, there: bool, at: u64) -> bool {
+fn same_positions(at: Positions, first: u64, last: u64) -> bool {
+    if at.first != first {
+        return false;
+    }
+    at.last == last
+}
+
+fn same_position(p: Position, there: bool, first: u64, last: u64) -> bool {
     match p {
-        Position::Nothing => if there { false } else { at == 0 },
-        Position::At(k) => if there { k == at } else { false },
+        Position::Nothing => if there {
+            false
+        } else {
+            same_positions(Positions { first: 0, last: 0 }, first, last)
+        },
+        Position::At(at) => if there {
+            same_positions(at, first, last)
+        } else {
+            false
+        },
     }
 }
 
 fn same_scans(scans: Scans, bytes: &[u8]) -> bool
-    requires { ⌜ 128 ≤ length (now bytes) ⌝ }
+    requires { ⌜ 136 ≤ length (now bytes) ⌝ }
 {
     let peak_at = scans.peak_at;
-    if patterns::bits64(scans.ratio) != vectors::number(bytes, 64, 8) {
+    if floats::bits::pattern64(scans.ratio) != vectors::number(bytes, 64, 8) {
         return false;
     }
     if scans.origin.0 != vectors::number(bytes, 72, 8) {
@@ -60,11 +76,12 @@ fn same_scans(scans: Scans, bytes: &[u8]) -> bool
         peak_at,
         records::flagged(bytes, 2),
         vectors::number(bytes, 80, 4),
+        vectors::number(bytes, 128, 4),
     )
 }
 
 fn same_state(fine: Fine, bytes: &[u8]) -> bool
-    requires { ⌜ 128 ≤ length (now bytes) ⌝ }
+    requires { ⌜ 136 ≤ length (now bytes) ⌝ }
 {
     let lengths = fine.lengths;
     let frames = fine.frames;
@@ -82,19 +99,24 @@ fn same_state(fine: Fine, bytes: &[u8]) -> bool
 }
 
 fn same_lock(lock: Lock, bytes: &[u8]) -> bool
-    requires { ⌜ 128 ≤ length (now bytes) ⌝ }
+    requires { ⌜ 136 ≤ length (now bytes) ⌝ }
 {
-    if lock.peak_at != vectors::number(bytes, 84, 4) {
+    let at = lock.peak_at;
+    if !same_positions(
+        at,
+        vectors::number(bytes, 84, 4),
+        vectors::number(bytes, 132, 4),
+    ) {
         return false;
     }
     if lock.delay.0 != vectors::number(bytes, 96, 8) {
         return false;
     }
-    patterns::bits64(lock.ratio) == vectors::number(bytes, 104, 8)
+    floats::bits::pattern64(lock.ratio) == vectors::number(bytes, 104, 8)
 }
 
 fn same_answer(done: Searched, bytes: &[u8]) -> bool
-    requires { ⌜ 128 ≤ length (now bytes) ⌝ }
+    requires { ⌜ 136 ≤ length (now bytes) ⌝ }
 {
     let lock = done.lock;
     if done.answer != vectors::number(bytes, 1, 1) {
@@ -116,7 +138,7 @@ fn retained_len(fine: Fine) -> u64 {
 }
 
 fn same_buffers(fine: Fine, near: &[f32], retained: &[f32], bytes: &[u8]) -> bool
-    requires { ⌜ 128 ≤ length (now bytes) ⌝ }
+    requires { ⌜ 136 ≤ length (now bytes) ⌝ }
 {
     let frame = buffers::first(near, fine.frames.len);
     if patterns::hash32(frame) != vectors::number(bytes, 112, 4) {
@@ -130,7 +152,7 @@ pub fn same(
     done: Searched,
     near: &[f32; 65536],
     retained: &[f32; 65536],
-    bytes: &[u8; 128],
+    bytes: &[u8; 136],
 ) -> bool {
     let fine = done.fine;
     if !same_answer(done, bytes) {

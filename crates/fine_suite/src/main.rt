@@ -39,7 +39,7 @@ fn held(
     done: Searched,
     near: &[f32; 65536],
     retained: &[f32; 65536],
-    bytes: &[u8; 128],
+    bytes: &[u8; 136],
 ) -> Run {
     let fine = done.fine;
     let same = compare::same(done, near, retained, bytes);
@@ -56,7 +56,7 @@ fn try_call(
     far: &mut [f32; 65536],
     array: &mut [f32; 65536],
     arrays: i32,
-    bytes: &[u8; 128],
+    bytes: &[u8; 136],
 ) -> Run {
     let fine = run.fine;
     let tally = run.tally;
@@ -65,10 +65,10 @@ fn try_call(
     held(tally, done, near, retained, bytes)
 }
 
-fn blank_record() -> [u8; 128]
-    ensures { λ r. ⌜ 128 ≡ length r ⌝ }
+fn blank_record() -> [u8; 136]
+    ensures { λ r. ⌜ 136 ≡ length r ⌝ }
 {
-    [0; 128]
+    [0; 136]
 }
 
 // Past the end of the file there is no whole record.
@@ -83,7 +83,7 @@ fn next_call(
 ) -> Run {
     let mut record = blank_record();
     let n = io::read_full(calls, &mut record);
-    if n < 128 {
+    if n < 136 {
         return run;
     }
     try_call(run, near, retained, far, array, arrays, &record)

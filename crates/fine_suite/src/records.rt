@@ -12,7 +12,7 @@ pub struct Call {
 }
 
 pub fn call_of(bytes: &[u8]) -> Call
-    requires { ⌜ 128 ≤ length (now bytes) ⌝ }
+    requires { ⌜ 136 ≤ length (now bytes) ⌝ }
 {
     Call {
         kind: vectors::number(bytes, 0, 1),
@@ -25,7 +25,7 @@ pub fn call_of(bytes: &[u8]) -> Call
 
 // Whether flag k of a record is set.
 pub fn flagged(bytes: &[u8], k: u64) -> bool
-    requires { ⌜ 128 ≤ length (now bytes) ⌝ }
+    requires { ⌜ 136 ≤ length (now bytes) ⌝ }
 {
     vectors::number(bytes, 2, 1) & k == k
 }

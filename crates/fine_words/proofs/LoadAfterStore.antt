@@ -9,15 +9,16 @@ use borrow.Author.Tests.{lt-ltb}
 use Rattle.answers.specs.Pick.{pick, both, pick-true}
 use Rattle.words.specs.Words.{word}
 use Rattle.words.proofs.Back.{half-small, reads, flag-reads, flag-case}
+use Rattle.fine.specs.State.{positions}
 use Rattle.fine.specs.declared.Position.{Position}
 use Rattle.fine.specs.declared.Position.the-variants.{Nothing, At}
 use Rattle.fine.specs.declared.Fine.{Fine}
-use Rattle.fine_words.specs.Layout.{loadedLengths, areCases, loadedOrigin, loadedFrames, loadedPeakAt, loadedScans, loaded, peakFlag, peakWord, stored}
+use Rattle.fine_words.specs.Layout.{loadedLengths, areCases, loadedOrigin, loadedFrames, loadedPeakAt, loadedScans, loaded, peakFlag, firstWord, lastWord, stored}
 use Rattle.fine_words.specs.Fitting.{Fits, LoadsAfterStore}
 
 peak-case : (k : Position) → ltb (peakFlag k) 2 ≡ true
 peak-case Nothing = refl
-peak-case (At k) = refl
+peak-case (At p) = refl
 
 all : {a b c d : Bool} → a ≡ true → b ≡ true → c ≡ true → d ≡ true → both a (both b (both c d)) ≡ true
 all {a} {b} {c} {d} p q r t = pick-true a _ _ p ∙ pick-true b _ _ q ∙ pick-true c _ _ r ∙ t
@@ -31,15 +32,15 @@ module _ (ws : List ℕ) (s : Fine) (h : Fits s) where
   unfolding loadedOrigin stored
   origin-back = pick-true _ _ _ cases-hold
 
-  module _ (old : ℕ) where
-    unflagged : (k : Position) → pick (lib.Dec.eqb (peakFlag k) 0) Nothing (At (peakWord old k)) ≡ k
+  module _ (first last : ℕ) where
+    unflagged : (p : Position) → pick (lib.Dec.eqb (peakFlag p) 0) Nothing (At (positions (firstWord first p) (lastWord last p))) ≡ p
     unfolding pick
     unflagged Nothing = refl
-    unflagged (At k) = refl
+    unflagged (At p) = refl
 
   peak-back : loadedPeakAt (stored ws s) ≡ s .scans .«peak_at»
   unfolding loadedPeakAt stored
-  peak-back = unflagged (word ws 11) (s .scans .«peak_at»)
+  peak-back = unflagged (word ws 11) (word ws 13) (s .scans .«peak_at»)
 
   scans-back : loadedScans (stored ws s) ≡ s .scans
   unfolding loadedScans stored

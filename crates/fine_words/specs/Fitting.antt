@@ -1,4 +1,4 @@
--- A fine state whose numbers fit their types, and what is said of it: `load-after-store` in proofs/.
+-- A fine state whose numbers fit their types, and what is proved of it: `load-after-store` in proofs/.
 use Prim.Native.Nat.{ℕ, _^_, _<_}
 use mathlib.Core.Path.{_≡_}
 use mathlib.Core.List.{List}
@@ -8,13 +8,13 @@ use lib.Ieee.{binary64}
 use Rattle.fine.specs.declared.Fine.{Fine}
 use Rattle.fine_words.specs.Layout.{loaded, stored}
 
--- a number of 64 bits may be any: a word holds it
+-- A number of 64 bits needs no condition: a word holds it.
 pub record Fits (s : Fine) : Type 0 where
   pub span : s .lengths .span < 2 ^ 32
   pub taken : s .frames .taken < 2 ^ 32
   pub skipped : s .frames .skipped < 2 ^ 32
   pub ratio : T (Ieee.fits binary64 (s .scans .ratio))
 
--- what is stored loads again, whatever the words were
+-- What was stored loads again, whatever the words were before.
 abbrev pub LoadsAfterStore : Type 0
 LoadsAfterStore = (ws : List ℕ) (s : Fine) → Fits s → loaded (stored ws s) ≡ s

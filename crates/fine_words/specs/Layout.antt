@@ -1,5 +1,5 @@
--- Where each field of a fine state stands in the 13 words that a host lends. Every 13 words load: those that no state stores load as one that breaks
--- a rule, so that a call refuses them with 3 in its place among the refusals.
+-- Says where each field of a fine state is in the 14 words that a host lends. Every 14 words load: those that no state stores load as one that breaks
+-- a rule, so that a call refuses them with 3 at its place among the refusals.
 use Prim.Native.Nat.{ℕ, _^_}
 use mathlib.Core.Bool.{Bool}
 use mathlib.Core.List.{List, [], _∷_}
@@ -9,6 +9,7 @@ use Rattle.answers.specs.Pick.{pick, both}
 use Rattle.answers.specs.Numbers.{limit}
 use Rattle.units.specs.Units.{samples}
 use Rattle.units.specs.declared.Samples.{Samples}
+use Rattle.fine.specs.State.{positions}
 use Rattle.fine.specs.declared.Lengths.{Lengths}
 use Rattle.fine.specs.declared.Frames.{Frames}
 use Rattle.fine.specs.declared.Position.{Position}
@@ -17,17 +18,17 @@ use Rattle.fine.specs.declared.Scans.{Scans}
 use Rattle.fine.specs.declared.Fine.{Fine}
 use Rattle.words.specs.Words.{word, half, patternOf, flagOf}
 
--- how many words a state has
+-- A state has this many words.
 abbrev pub fineWords : ℕ
-fineWords = 13
+fineWords = 14
 
 -- ---- loading
 
--- a span of 2^32 or more is outside the table, as 0 is
+-- A span of 2^32 or more loads as 0, which is outside the table.
 unfoldable pub loadedLengths : List ℕ → Lengths
 loadedLengths ws = record { span = half (word ws 0) 0; transform = word ws 1; frame = word ws 2 }
 
--- each number is a case: two flags, two counts of 32 bits
+-- Each number encodes a case: two flags and two counts of 32 bits.
 unfoldable pub areCases : List ℕ → Bool
 areCases ws =
     both (ltb (word ws 5) 2)
@@ -35,7 +36,7 @@ areCases ws =
     (both (ltb (word ws 7) (2 ^ 32))
     (ltb (word ws 10) 2)))
 
--- an origin of 2^62 breaks a rule, as a number that is no case does
+-- A number that encodes no case loads as an origin of 2^62, which breaks a rule.
 unfoldable pub loadedOrigin : List ℕ → Samples
 loadedOrigin ws = pick (areCases ws) (samples (word ws 3)) (samples limit)
 
@@ -43,7 +44,7 @@ unfoldable pub loadedFrames : List ℕ → Frames
 loadedFrames ws = record { len = word ws 4; retained = eqb (word ws 5) 1; taken = half (word ws 6) 0; skipped = half (word ws 7) 0 }
 
 unfoldable pub loadedPeakAt : List ℕ → Position
-loadedPeakAt ws = pick (eqb (word ws 10) 0) Nothing (At (word ws 11))
+loadedPeakAt ws = pick (eqb (word ws 10) 0) Nothing (At (positions (word ws 11) (word ws 13)))
 
 unfoldable pub loadedScans : List ℕ → Scans
 loadedScans ws = record { count = word ws 8; ratio = ofBits binary64 (word ws 9); «peak_at» = loadedPeakAt ws; origin = samples (word ws 12) }
@@ -55,14 +56,18 @@ loaded ws = record { lengths = loadedLengths ws; origin = loadedOrigin ws; frame
 
 abbrev pub peakFlag : Position → ℕ
 peakFlag Nothing = 0
-peakFlag (At k) = 1
+peakFlag (At p) = 1
 
--- a position that is not there leaves what stood in its word
-abbrev pub peakWord : ℕ → Position → ℕ
-peakWord old Nothing = old
-peakWord old (At k) = k
+-- Without a position, its words keep what they held.
+abbrev pub firstWord : ℕ → Position → ℕ
+firstWord old Nothing = old
+firstWord old (At p) = p .first
 
--- the words of a fine state, where ws stood
+abbrev pub lastWord : ℕ → Position → ℕ
+lastWord old Nothing = old
+lastWord old (At p) = p .last
+
+-- Gives the words of a fine state, stored over ws.
 unfoldable pub stored : List ℕ → Fine → List ℕ
 stored ws s =
     s .lengths .span
@@ -76,10 +81,11 @@ stored ws s =
     ∷ s .scans .count
     ∷ patternOf binary64 (word ws 9) (s .scans .ratio)
     ∷ peakFlag (s .scans .«peak_at»)
-    ∷ peakWord (word ws 11) (s .scans .«peak_at»)
+    ∷ firstWord (word ws 11) (s .scans .«peak_at»)
     ∷ s .scans .origin .0
+    ∷ lastWord (word ws 13) (s .scans .«peak_at»)
     ∷ []
 
--- what a call leaves in the words: numbers below 16 are refusals, and a refused call leaves every word
+-- Says what a call leaves in the words. Numbers below 16 are refusals, and a refused call leaves every word unchanged.
 unfoldable pub settled : List ℕ → ℕ → Fine → List ℕ
 settled ws number s = pick (ltb number 16) ws (stored ws s)

@@ -1,7 +1,5 @@
-// What a call answers: below 16 its refusal's number, from 16 on the case, in document 01's order; and the values that come with it, which go into a lent list.
-use fine::Change;
+// Gives what a call answers on the C face (words: Answers): a number, and the values that come with it, which go into a lent list.
 use fine::Changed;
-use fine::CountReport;
 use fine::Position;
 use fine::PositionReport;
 use fine::RangeReport;
@@ -13,26 +11,24 @@ use fine_gate::Taking;
 use fine_peak::PeakAnswer;
 ghost use mathlib.Core.Path.{_≡_};
 ghost use lib.ListN.{length};
+ghost use Rattle.answers.specs.Told.{changeTold};
 ghost use Rattle.words.specs.Words.{oneValue};
+ghost use Rattle.words.specs.Answers.{number, given};
+ghost use Rattle.fine.specs.Told.{samplesTold, rangeTold, ratioTold, placeTold, positionTold};
+ghost use Rattle.fine_gate.specs.Told.{takingTold, gateTold, rescanTold};
+ghost use Rattle.fine_peak.specs.Told.{peakTold};
 ghost use Rattle.fine_words.specs.Layout.{fineWords};
-ghost use Rattle.fine_words.specs.Answers.{rangeValues, peakValues, changeNumber, changedWords, takingNumber, gateNumber, rescanNumber, samplesNumber, samplesTold, countNumber, countTold, ratioNumber, ratioTold, placeNumber, placeTold, positionNumber, positionTold, rangeNumber, rangeTold, peakNumber, peakTold};
+ghost use Rattle.fine_words.specs.Answers.{rangeValues, placeValues, peakValues, ratioGiven, peakGiven, changedWords};
 
-// How many values a call is lent a list for, where it is not one.
+// How many values a call writes, if it is not one.
 pub const RANGE_VALUES: usize = 2;
 
-pub const PEAK_VALUES: usize = 3;
+pub const PLACE_VALUES: usize = 2;
 
-fn change_number(answer: Change) -> u32
-    ensures { λ r. ⌜ r ≡ changeNumber answer ⌝ }
-{
-    match answer {
-        Change::Refused(n) => n as u32,
-        Change::Done => 16,
-    }
-}
+pub const PEAK_VALUES: usize = 4;
 
 pub fn taking_number(answer: Taking) -> u32
-    ensures { λ r. ⌜ r ≡ takingNumber answer ⌝ }
+    ensures { λ r. ⌜ r ≡ number (takingTold answer) ⌝ }
 {
     match answer {
         Taking::Refused(n) => n as u32,
@@ -42,7 +38,7 @@ pub fn taking_number(answer: Taking) -> u32
 }
 
 pub fn gate_number(answer: GateAnswer) -> u32
-    ensures { λ r. ⌜ r ≡ gateNumber answer ⌝ }
+    ensures { λ r. ⌜ r ≡ number (gateTold answer) ⌝ }
 {
     match answer {
         GateAnswer::Refused(n) => n as u32,
@@ -54,7 +50,7 @@ pub fn gate_number(answer: GateAnswer) -> u32
 }
 
 pub fn rescan_number(answer: RescanAnswer) -> u32
-    ensures { λ r. ⌜ r ≡ rescanNumber answer ⌝ }
+    ensures { λ r. ⌜ r ≡ number (rescanTold answer) ⌝ }
 {
     match answer {
         RescanAnswer::Refused(n) => n as u32,
@@ -67,20 +63,20 @@ pub fn rescan_number(answer: RescanAnswer) -> u32
 
 pub fn settle_change(state: &mut [u64], changed: Changed) -> u32
     requires { ⌜ length (now state) ≡ fineWords ⌝ }
-    ensures number { λ r. ⌜ r ≡ changeNumber (changed .answer) ⌝ }
+    ensures number { λ r. ⌜ r ≡ number (changeTold (changed .answer)) ⌝ }
     ensures words { λ r. ⌜ now (state .exit) ≡ changedWords (now (state .entry)) changed ⌝ }
 {
     let fine = changed.fine;
     let answer = changed.answer;
-    crate::settle(state, change_number(answer), fine)
+    crate::settle(state, words::change_number(answer), fine)
 }
 
 // ---- what an answer with values writes
 
 pub fn tell_samples(values: &mut [u64], report: SamplesReport) -> u32
     requires { ⌜ length (now values) ≡ oneValue ⌝ }
-    ensures number { λ r. ⌜ r ≡ samplesNumber report ⌝ }
-    ensures values { λ r. ⌜ now (values .exit) ≡ samplesTold (now (values .entry)) report ⌝ }
+    ensures number { λ r. ⌜ r ≡ number (samplesTold report) ⌝ }
+    ensures values { λ r. ⌜ now (values .exit) ≡ given (now (values .entry)) (samplesTold report) ⌝ }
 {
     match report {
         SamplesReport::Refused(n) => n as u32,
@@ -91,25 +87,11 @@ pub fn tell_samples(values: &mut [u64], report: SamplesReport) -> u32
     }
 }
 
-pub fn tell_count(values: &mut [u64], report: CountReport) -> u32
-    requires { ⌜ length (now values) ≡ oneValue ⌝ }
-    ensures number { λ r. ⌜ r ≡ countNumber report ⌝ }
-    ensures values { λ r. ⌜ now (values .exit) ≡ countTold (now (values .entry)) report ⌝ }
-{
-    match report {
-        CountReport::Refused(n) => n as u32,
-        CountReport::Is(n) => {
-            values[0] = n;
-            16
-        }
-    }
-}
-
-// A NaN is told by the pattern that it has in the state.
+// Tells a NaN by the pattern that it has in the state.
 pub fn tell_ratio(values: &mut [u64], pattern: u64, report: RatioReport) -> u32
     requires { ⌜ length (now values) ≡ oneValue ⌝ }
-    ensures number { λ r. ⌜ r ≡ ratioNumber report ⌝ }
-    ensures values { λ r. ⌜ now (values .exit) ≡ ratioTold (now (values .entry)) pattern report ⌝ }
+    ensures number { λ r. ⌜ r ≡ number (ratioTold report) ⌝ }
+    ensures values { λ r. ⌜ now (values .exit) ≡ ratioGiven (now (values .entry)) pattern report ⌝ }
 {
     match report {
         RatioReport::Refused(n) => n as u32,
@@ -121,23 +103,24 @@ pub fn tell_ratio(values: &mut [u64], pattern: u64, report: RatioReport) -> u32
 }
 
 fn tell_place(values: &mut [u64], place: Position) -> u32
-    requires { ⌜ length (now values) ≡ oneValue ⌝ }
-    ensures number { λ r. ⌜ r ≡ placeNumber place ⌝ }
-    ensures values { λ r. ⌜ now (values .exit) ≡ placeTold (now (values .entry)) place ⌝ }
+    requires { ⌜ length (now values) ≡ placeValues ⌝ }
+    ensures number { λ r. ⌜ r ≡ number (placeTold place) ⌝ }
+    ensures values { λ r. ⌜ now (values .exit) ≡ given (now (values .entry)) (placeTold place) ⌝ }
 {
     match place {
         Position::Nothing => 16,
-        Position::At(k) => {
-            values[0] = k;
+        Position::At(at) => {
+            values[0] = at.first;
+            values[1] = at.last;
             17
         }
     }
 }
 
 pub fn tell_position(values: &mut [u64], report: PositionReport) -> u32
-    requires { ⌜ length (now values) ≡ oneValue ⌝ }
-    ensures number { λ r. ⌜ r ≡ positionNumber report ⌝ }
-    ensures values { λ r. ⌜ now (values .exit) ≡ positionTold (now (values .entry)) report ⌝ }
+    requires { ⌜ length (now values) ≡ placeValues ⌝ }
+    ensures number { λ r. ⌜ r ≡ number (positionTold report) ⌝ }
+    ensures values { λ r. ⌜ now (values .exit) ≡ given (now (values .entry)) (positionTold report) ⌝ }
 {
     match report {
         PositionReport::Refused(n) => n as u32,
@@ -147,8 +130,8 @@ pub fn tell_position(values: &mut [u64], report: PositionReport) -> u32
 
 pub fn tell_range(values: &mut [u64], report: RangeReport) -> u32
     requires { ⌜ length (now values) ≡ rangeValues ⌝ }
-    ensures number { λ r. ⌜ r ≡ rangeNumber report ⌝ }
-    ensures values { λ r. ⌜ now (values .exit) ≡ rangeTold (now (values .entry)) report ⌝ }
+    ensures number { λ r. ⌜ r ≡ number (rangeTold report) ⌝ }
+    ensures values { λ r. ⌜ now (values .exit) ≡ given (now (values .entry)) (rangeTold report) ⌝ }
 {
     match report {
         RangeReport::Refused(n) => n as u32,
@@ -164,18 +147,23 @@ pub fn tell_range(values: &mut [u64], report: RangeReport) -> u32
 
 pub fn tell_peak(values: &mut [u64], answer: PeakAnswer) -> u32
     requires { ⌜ length (now values) ≡ peakValues ⌝ }
-    ensures number { λ r. ⌜ r ≡ peakNumber answer ⌝ }
-    ensures values { λ r. ⌜ now (values .exit) ≡ peakTold (now (values .entry)) answer ⌝ }
+    ensures number { λ r. ⌜ r ≡ number (peakTold answer) ⌝ }
+    ensures values { λ r. ⌜ now (values .exit) ≡ peakGiven (now (values .entry)) answer ⌝ }
 {
     match answer {
         PeakAnswer::Refused(n) => n as u32,
-        PeakAnswer::NoCandidate => 16,
+        PeakAnswer::NoCandidate(at) => {
+            values[1] = at.first;
+            values[3] = at.last;
+            16
+        }
         PeakAnswer::Candidate(lock) => {
             let delay = lock.delay;
-            let ratio = words::pattern(values[2], lock.ratio);
+            let at = lock.peak_at;
             values[0] = delay.0;
-            values[1] = lock.peak_at;
-            values[2] = ratio;
+            values[1] = at.first;
+            values[2] = words::pattern(0, lock.ratio);
+            values[3] = at.last;
             17
         }
     }

@@ -1,17 +1,18 @@
-// A fine state, from the 13 words that a host lends and back, and its calls' answers as numbers and values. specs/Layout.antt says where each field stands.
+// Loads a fine state from the 14 words that a host lends, stores it there, and turns its calls' answers into numbers and values. specs/Layout.antt says where each field is.
 ghost use mathlib.Core.Path.{_≡_};
 ghost use lib.ListN.{length};
-ghost use Rattle.fine_words.specs.Layout.{fineWords, loadedLengths, areCases, loadedOrigin, loadedFrames, loadedPeakAt, loadedScans, loaded, peakFlag, peakWord, stored, settled};
+ghost use Rattle.fine_words.specs.Layout.{fineWords, loadedLengths, areCases, loadedOrigin, loadedFrames, loadedPeakAt, loadedScans, loaded, peakFlag, firstWord, lastWord, stored, settled};
 use fine::Fine;
 use fine::Frames;
 use fine::Lengths;
 use fine::Position;
+use fine::Positions;
 use fine::Scans;
 use units::Samples;
 
 pub mod answering; // what a call answers
 
-pub const WORDS: usize = 13;
+pub const WORDS: usize = 14;
 
 fn load_lengths(state: &[u64]) -> Lengths
     requires { ⌜ length (now state) ≡ fineWords ⌝ }
@@ -24,7 +25,7 @@ fn load_lengths(state: &[u64]) -> Lengths
     }
 }
 
-// Whether each flag is 0 or 1, and the counts of frames are numbers of 32 bits.
+// Tells whether each flag is 0 or 1, and each count of frames is a number of 32 bits.
 fn are_cases(state: &[u64]) -> bool
     requires { ⌜ length (now state) ≡ fineWords ⌝ }
     ensures { λ r. ⌜ r ≡ areCases (now (state .entry)) ⌝ }
@@ -70,7 +71,10 @@ fn load_peak_at(state: &[u64]) -> Position
     if state[10] == 0 {
         return Position::Nothing;
     }
-    Position::At(state[11])
+    Position::At(Positions {
+        first: state[11],
+        last: state[13],
+    })
 }
 
 fn load_scans(state: &[u64]) -> Scans
@@ -79,7 +83,7 @@ fn load_scans(state: &[u64]) -> Scans
 {
     Scans {
         count: state[8],
-        ratio: words::float(state[9]),
+        ratio: floats::bits::float64(state[9]),
         peak_at: load_peak_at(state),
         origin: Samples(state[12]),
     }
@@ -106,13 +110,22 @@ fn peak_flag(peak_at: Position) -> u64
     }
 }
 
-// A position that is not there leaves what stood in its word.
-fn peak_word(old: u64, peak_at: Position) -> u64
-    ensures { λ r. ⌜ r ≡ peakWord old «peak_at» ⌝ }
+// Without a position, its words keep what they held.
+fn first_word(old: u64, peak_at: Position) -> u64
+    ensures { λ r. ⌜ r ≡ firstWord old «peak_at» ⌝ }
 {
     match peak_at {
         Position::Nothing => old,
-        Position::At(k) => k,
+        Position::At(at) => at.first,
+    }
+}
+
+fn last_word(old: u64, peak_at: Position) -> u64
+    ensures { λ r. ⌜ r ≡ lastWord old «peak_at» ⌝ }
+{
+    match peak_at {
+        Position::Nothing => old,
+        Position::At(at) => at.last,
     }
 }
 
@@ -125,7 +138,7 @@ fn store(state: &mut [u64], fine: Fine)
     let frames = fine.frames;
     let scans = fine.scans;
     let peak_at = scans.peak_at;
-    let last = scans.origin;
+    let scanned_from = scans.origin;
     let stored = [
         lengths.span as u64,
         lengths.transform,
@@ -138,13 +151,14 @@ fn store(state: &mut [u64], fine: Fine)
         scans.count,
         words::pattern(state[9], scans.ratio),
         peak_flag(peak_at),
-        peak_word(state[11], peak_at),
-        last.0,
+        first_word(state[11], peak_at),
+        scanned_from.0,
+        last_word(state[13], peak_at),
     ];
     words::put(&stored, state);
 }
 
-// What a call leaves in the words, nothing new where it was refused; and the call's number.
+// Stores what a call leaves in the words, nothing new if it was refused, and returns the call's number.
 pub fn settle(state: &mut [u64], number: u32, fine: Fine) -> u32
     requires { ⌜ length (now state) ≡ fineWords ⌝ }
     ensures number { λ r. ⌜ r ≡ number ⌝ }

@@ -1,1 +1,1 @@
-// Document 01's P rows. There is no code here: proofs/Table.antt is the table, under one claim.
+// The P rows of SPECIFICATION 15. There is no code here: specs/Table.antt is the table, under one claim.

@@ -37,9 +37,10 @@ pub fn files(mut random: Random) -> Files {
         records,
         gates,
         locks,
+        ties,
         ..
     } = stored;
-    eprintln!("fine: {records} calls, gates nothing, skipped, silent, first, later: {gates:?}, {locks} locks");
+    eprintln!("fine: {records} calls, gates nothing, skipped, silent, first, later: {gates:?}, {locks} locks, {ties} ties");
     vec![("calls", stored.calls.0), ("arrays", stored.arrays.0)]
 }
 

@@ -36,11 +36,15 @@ pub struct Stored {
     pub records: usize,
     pub gates: [usize; 5],
     pub locks: usize,
+    pub ties: usize,
 }
 
-/// One fine stage, the far window that the host holds, and what is stored of each call.
+/// One fine stage, the far window that the host holds, and what is stored of each call. The original does not say where the peak stands last: `turned`
+/// finds it in the array turned round, and `last` is that of the recorded scan, 0 if none is.
 pub struct Script<'a> {
     pub fine: DelayEstimator,
+    turned: DelayEstimator,
+    last: usize,
     window: Vec<f32>,
     stored: &'a mut Stored,
 }
@@ -52,6 +56,8 @@ impl Script<'_> {
         let window = vec![0.0; fine.window_len()];
         let mut script = Script {
             fine,
+            turned: DelayEstimator::new(1000, span),
+            last: 0,
             window,
             stored,
         };
@@ -142,13 +148,15 @@ impl Script<'_> {
     /// Stores a gate; where the original went on to the peak rule, with the array that it read.
     fn judged(&mut self, kind: u8, answer: u8, support: WindowSupport, seen: FineObservation) {
         self.stored.gates[answer as usize] += 1;
-        if answer == LATER {
-            for entry in self.fine.correlation() {
-                self.stored.arrays.u32(entry.to_bits());
-            }
-        }
         let call = Call::new(kind).answer(answer).count(support.missing_head);
-        self.store_lock(call.number(support.missing_tail as u64), seen.candidate);
+        let call = call.number(support.missing_tail as u64);
+        if answer != LATER {
+            return self.store(call);
+        }
+        for entry in self.fine.correlation() {
+            self.stored.arrays.u32(entry.to_bits());
+        }
+        self.store_scan(call, seen);
     }
 
     pub fn restart(&mut self) {
@@ -163,6 +171,7 @@ impl Script<'_> {
 
     pub fn reset(&mut self) {
         self.fine.reset();
+        self.last = 0;
         self.store(Call::new(RESET));
     }
 
@@ -186,14 +195,24 @@ impl Script<'_> {
 
     pub fn peak(&mut self) {
         let seen = self.fine.peak_rule();
-        self.store_lock(Call::new(PEAK), seen.candidate);
+        self.store_scan(Call::new(PEAK), seen);
+    }
+
+    /// Stores a call that came to the peak rule.
+    fn store_scan(&mut self, call: Call, seen: FineObservation) {
+        self.last = self.turned.last_of(self.fine.correlation());
+        let first = self.fine.fields().last_peak_at;
+        let first = first.expect("the scan was recorded");
+        self.stored.ties += (first != self.last) as usize;
+        self.store_found(call, (first, self.last), seen.candidate);
     }
 
     fn store(&mut self, call: Call) {
-        self.store_lock(call, None);
+        self.store_found(call, (0, 0), None);
     }
 
-    fn store_lock(&mut self, call: Call, lock: Option<FineLock>) {
+    /// Stores a call, with where the peak rule found the peak, first and last, and the lock.
+    fn store_found(&mut self, call: Call, found: (usize, usize), lock: Option<FineLock>) {
         self.stored.records += 1;
         self.stored.locks += lock.is_some() as usize;
         let fine = &self.fine;
@@ -219,7 +238,7 @@ impl Script<'_> {
         out.u64(fine.last_scan_ratio().to_bits())
             .u64(fine.last_scan_origin() as u64);
         out.u32(fields.last_peak_at.unwrap_or(0) as u32)
-            .u32(lock.peak_at as u32);
+            .u32(found.0 as u32);
         out.u64(fine.scans())
             .u64(lock.delay as u64)
             .u64(lock.ratio.to_bits());
@@ -229,5 +248,6 @@ impl Script<'_> {
         out.u32(hash(retained.iter().map(|sample| sample.to_bits())));
         out.u32(fine.frame_len() as u32)
             .u32(fine.window_len() as u32);
+        out.u32(self.last as u32).u32(found.1 as u32);
     }
 }

@@ -1,7 +1,11 @@
 -- `fine_face::tmv_fine_search_range` meets its contract.
 use mathlib.Core.Path.{sym, _∙_}
+use Rattle.fine.specs.Told.{rangeTold}
+use Rattle.fine_words.specs.Answers.{rangeValues}
+use Rattle.fine.specs.Calls.{searchRange}
 use Rattle.fine_face.specs.Calls.{searchRangeCalled}
-use Rattle.face.proofs.Order.{state-fits, values-fit, refused, let-pass, number-is, values-are}
+use Rattle.face.proofs.Order.{state-fits, values-fit}
+use Rattle.fine_face.proofs.Reports.{turned-away, reports}
 use borrow.Author.Needs.{needs}
 use Rattle.fine_face.proofs.tmv_fine_search_range.Statement.{statement}
 use Rattle.fine_face.proofs.tmv_fine_search_range.Tie as tie
@@ -11,7 +15,7 @@ judge-requires c κs = search needs
 
 returns : tie.Need-returns
 unfolding searchRangeCalled
-returns c = let w = refused _ _ _ _ _ _ (c .before .judge .ensures) (c .if1 .taken) in (number-is w, values-are w)
+returns c = turned-away rangeTold searchRange rangeValues (c .before .before .before .before .args .state .now) (c .before .before .before .before .args .values .now) (c .before .judge .ensures) (c .if1 .taken)
 
 load-requires : tie.Need-load-requires
 load-requires c κs = state-fits _ (c .before .before .before .before .before .args .state .now) _ _ (sym (c .before .before .judge .ensures) ∙ c .before .if1 .left)
@@ -27,7 +31,7 @@ same-length c = search needs
 
 returns-2 : tie.Need-returns-2
 unfolding searchRangeCalled
-returns-2 c = let p = let-pass _ _ _ _ _ _ (c .before .before .before .before .before .before .before .judge .ensures) (c .before .before .before .before .before .before .if1 .left) in (cc (c .before .before .tell-range .ensures .0, c .before .before .before .search-range .ensures, c .before .before .before .before .load .ensures) ∙ number-is p, cc (c .before .before .tell-range .ensures .1, c .before .before .before .search-range .ensures, c .before .before .before .before .load .ensures) ∙ values-are p)
+returns-2 c = reports rangeTold searchRange rangeValues (c .before .before .before .before .before .before .before .before .before .before .args .state .now) (c .before .before .before .before .before .before .before .before .before .before .args .values .now) (c .before .before .before .before .before .before .before .judge .ensures) (c .before .before .before .before .before .before .if1 .left) (c .before .before .before .before .load .ensures) (c .before .before .before .search-range .ensures) (c .before .before .tell-range .ensures .0) (c .before .before .tell-range .ensures .1)
 
 pub tmv-fine-search-range-spec : {M : Type 1} → statement M
 tmv-fine-search-range-spec = tie.close (tie.spec judge-requires returns load-requires search-range-requires tell-range-requires same-length returns-2)

@@ -1,4 +1,4 @@
--- `fine_peak::survey` meets its contract. Invariant: the peak and the total of the first k entries.
+-- `fine_peak::survey` meets its contract. Invariant: the crest and the total of the first k entries.
 use Prim.Native.Nat.{_≤_, _-_, _+_}
 use mathlib.Core.Path.{_≡_, refl, _∙_}
 use native.Mathlib.Omega.{arith}
@@ -6,22 +6,21 @@ use lib.ListN.{length}
 use lib.Ieee.{ofBits}
 use borrow.Author.Needs.{needs}
 use Rattle.folds.specs.Sums.{upto}
-use Rattle.folds.specs.Search.{searchUp}
 use Rattle.folds.proofs.Laws.{more}
-use Rattle.fine_peak.specs.Peak.{height, heightsOf}
+use Rattle.fine_peak.specs.Peak.{crestOf, height, heightsOf}
 use Rattle.fine_peak.proofs.Laws.{met-next}
 use Rattle.fine_peak.proofs.survey.Statement.{statement}
 use Rattle.fine_peak.proofs.survey.Tie as tie
 
 abbrev Inv-loop : tie.InvT-loop
-Inv-loop correlation n peak₀ total₀ k₀ peak total k =
-    (k ≤ n) × (peak ≡ searchUp (height correlation) k) × (total ≡ upto (height correlation) k)
+Inv-loop correlation n crest₀ total₀ k₀ crest total k =
+    (k ≤ n) × (crest ≡ crestOf (height correlation) k) × (total ≡ upto (height correlation) k)
 
 abbrev μ-loop : tie.MeasureT-loop
-μ-loop correlation n peak₀ total₀ k₀ peak total k = n - k
+μ-loop correlation n crest₀ total₀ k₀ crest total k = n - k
 
 loop-holds : tie.Need-loop-holds Inv-loop μ-loop
-unfolding searchUp upto ofBits
+unfolding crestOf upto ofBits
 loop-holds c = (omega arith, refl, refl)
 
 mul-f32-to-f64-with-nan : tie.Need-mul-f32-to-f64-with-nan Inv-loop μ-loop
@@ -51,7 +50,7 @@ loop-again c =
     let l = c .before .before .before .before .before .loop in
     let t = height (c .before .before .before .before .before .before .before .args .correlation .now) in
     let x : c .before .magnitude .result ≡ t (l .k) = cc in
-    (omega arith, c .met .ensures ∙ met-next t (l .k) (l .peak) _ (l .inv .1) x, cc (more t (l .k) (l .total) (l .inv .2)))
+    (omega arith, c .met .ensures ∙ met-next t (l .k) (l .crest) _ (l .inv .1) x, cc (more t (l .k) (l .total) (l .inv .2)))
 
 returns : tie.Need-returns Inv-loop μ-loop
 unfolding heightsOf

@@ -15,10 +15,14 @@ returns c = search cases
 shared-slice-read-t3 : tie.Need-shared-slice-read-t3
 shared-slice-read-t3 c = search needs
 
+shared-slice-read-t7 : tie.Need-shared-slice-read-t7
+shared-slice-read-t7 c = search needs
+
 returns-2 : tie.Need-returns-2
 unfolding loadedPeakAt
 returns-2 c = search cases
 
 pub load-peak-at-spec : {M : Type 1} → statement M
 load-peak-at-spec =
-    tie.close (tie.spec shared-slice-read-if1 returns shared-slice-read-t3 returns-2)
+    tie.close
+    (tie.spec shared-slice-read-if1 returns shared-slice-read-t3 shared-slice-read-t7 returns-2)

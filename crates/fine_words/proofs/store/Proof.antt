@@ -25,11 +25,17 @@ pattern-requires c κs = search needs
 peak-flag-requires : tie.Need-peak-flag-requires
 peak-flag-requires c κs = search needs
 
-slice-read-peak-word : tie.Need-slice-read-peak-word
-slice-read-peak-word c = search needs
+slice-read-first-word : tie.Need-slice-read-first-word
+slice-read-first-word c = search needs
 
-peak-word-requires : tie.Need-peak-word-requires
-peak-word-requires c κs = search needs
+first-word-requires : tie.Need-first-word-requires
+first-word-requires c κs = search needs
+
+slice-read-last-word : tie.Need-slice-read-last-word
+slice-read-last-word c = search needs
+
+last-word-requires : tie.Need-last-word-requires
+last-word-requires c κs = search needs
 
 slice-aggregate-put : tie.Need-slice-aggregate-put
 slice-aggregate-put c = search needs
@@ -42,7 +48,7 @@ same-length c = search needs
 
 returns : tie.Need-returns
 unfolding stored
-returns c = cc (c .before .before .put .ensures, c .before .before .before .before .before .before .before .before .before .before .before .before .flag .ensures, c .before .before .before .before .before .before .before .before .pattern .ensures, c .before .before .before .before .before .before .before .peak-flag .ensures, c .before .before .before .before .before .peak-word .ensures)
+returns c = cc (c .before .before .put .ensures, c .before .before .before .before .before .before .before .before .before .before .before .before .before .before .flag .ensures, c .before .before .before .before .before .before .before .before .before .before .pattern .ensures, c .before .before .before .before .before .before .before .before .before .peak-flag .ensures, c .before .before .before .before .before .before .before .first-word .ensures, c .before .before .before .before .before .last-word .ensures)
 
 pub store-spec : {M : Type 1} → statement M
 store-spec =
@@ -55,8 +61,10 @@ store-spec =
     slice-read-pattern
     pattern-requires
     peak-flag-requires
-    slice-read-peak-word
-    peak-word-requires
+    slice-read-first-word
+    first-word-requires
+    slice-read-last-word
+    last-word-requires
     slice-aggregate-put
     put-requires
     same-length

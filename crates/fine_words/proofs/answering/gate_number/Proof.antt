@@ -1,5 +1,5 @@
 -- `fine_words::answering::gate_number` meets its contract.
-use Rattle.fine_words.specs.Answers.{gateNumber}
+use Rattle.words.specs.Answers.{number}
 use borrow.Author.Needs.{needs}
 use Rattle.fine_words.proofs.answering.gate_number.Statement.{statement}
 use Rattle.fine_words.proofs.answering.gate_number.Tie as tie
@@ -23,23 +23,23 @@ enum-told-4 : tie.Need-enum-told-4
 enum-told-4 c = search needs
 
 returns : tie.Need-returns
-unfolding gateNumber
+unfolding number
 returns c = search needs
 
 returns-2 : tie.Need-returns-2
-unfolding gateNumber
+unfolding number
 returns-2 c = search needs
 
 returns-3 : tie.Need-returns-3
-unfolding gateNumber
+unfolding number
 returns-3 c = search needs
 
 returns-4 : tie.Need-returns-4
-unfolding gateNumber
+unfolding number
 returns-4 c = search needs
 
 returns-5 : tie.Need-returns-5
-unfolding gateNumber
+unfolding number
 returns-5 c = search needs
 
 pub gate-number-spec : {M : Type 1} → statement M

@@ -1,5 +1,5 @@
 -- `fine_words::answering::taking_number` meets its contract.
-use Rattle.fine_words.specs.Answers.{takingNumber}
+use Rattle.words.specs.Answers.{number}
 use borrow.Author.Needs.{needs}
 use Rattle.fine_words.proofs.answering.taking_number.Statement.{statement}
 use Rattle.fine_words.proofs.answering.taking_number.Tie as tie
@@ -17,15 +17,15 @@ enum-told-2 : tie.Need-enum-told-2
 enum-told-2 c = search needs
 
 returns : tie.Need-returns
-unfolding takingNumber
+unfolding number
 returns c = search needs
 
 returns-2 : tie.Need-returns-2
-unfolding takingNumber
+unfolding number
 returns-2 c = search needs
 
 returns-3 : tie.Need-returns-3
-unfolding takingNumber
+unfolding number
 returns-3 c = search needs
 
 pub taking-number-spec : {M : Type 1} → statement M

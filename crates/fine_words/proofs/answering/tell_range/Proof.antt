@@ -1,5 +1,5 @@
 -- `fine_words::answering::tell_range` meets its contract.
-use Rattle.fine_words.specs.Answers.{rangeNumber, rangeTold}
+use Rattle.words.specs.Answers.{number, valuesOf, putFrom}
 use borrow.Author.Needs.{needs}
 use Rattle.fine_words.proofs.answering.tell_range.Statement.{statement}
 use Rattle.fine_words.proofs.answering.tell_range.Tie as tie
@@ -20,14 +20,14 @@ slice-write-values-2 : tie.Need-slice-write-values-2
 slice-write-values-2 c = search needs
 
 returns : tie.Need-returns
-unfolding rangeNumber rangeTold
+unfolding number valuesOf putFrom
 returns c = search needs
 
 same-length : tie.Need-same-length
 same-length c = search needs
 
 returns-2 : tie.Need-returns-2
-unfolding rangeNumber rangeTold
+unfolding number valuesOf putFrom
 returns-2 c = (rw (c .before .before .before .report2 .given .1), rw (c .before .before .before .report2 .given .1))
 
 pub tell-range-spec : {M : Type 1} → statement M

@@ -1,5 +1,6 @@
 -- `fine_words::answering::tell_ratio` meets its contract.
-use Rattle.fine_words.specs.Answers.{ratioNumber, ratioTold}
+use Rattle.words.specs.Answers.{number}
+use Rattle.fine_words.specs.Answers.{ratioGiven}
 use borrow.Author.Needs.{needs}
 use Rattle.fine_words.proofs.answering.tell_ratio.Statement.{statement}
 use Rattle.fine_words.proofs.answering.tell_ratio.Tie as tie
@@ -20,14 +21,14 @@ slice-write-values : tie.Need-slice-write-values
 slice-write-values c = search needs
 
 returns : tie.Need-returns
-unfolding ratioNumber ratioTold
+unfolding number ratioGiven
 returns c = search needs
 
 same-length : tie.Need-same-length
 same-length c = search needs
 
 returns-2 : tie.Need-returns-2
-unfolding ratioNumber ratioTold
+unfolding number ratioGiven
 returns-2 c = (cc, cc)
 
 pub tell-ratio-spec : {M : Type 1} → statement M

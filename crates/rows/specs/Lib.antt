@@ -1,0 +1,3 @@
+-- The worked numbers of SPECIFICATION 15.
+pub mod Table
+pub mod Most
