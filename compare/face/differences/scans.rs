@@ -6,6 +6,7 @@ use crate::face::scan as face;
 use crate::scans::beside;
 use crate::scans::calls;
 use crate::scans::shape::Call;
+use crate::scans::teleport;
 use crate::scans::world::World;
 
 pub fn all() -> Vec<Difference> {
@@ -13,6 +14,7 @@ pub fn all() -> Vec<Difference> {
         no_numbers(),
         one_short(),
         waiting(),
+        hole(),
         unscored(),
         ignored(),
         narrowed(),
@@ -52,6 +54,7 @@ fn near(w: &mut World, sample: f32, index: u64) -> String {
 fn waiting() -> Difference {
     let mut w = World::new(48_000, 1);
     w.set_word(12, w.bins().frame);
+    teleport::set_last(&mut w);
     let mut original = beside::original(&w);
     original.push_near(0.5, 0);
     let counted = original.fields().near_count;
@@ -59,6 +62,22 @@ fn waiting() -> Difference {
         input: "a near sample while a full frame waits",
         rust: (format!("counts {counted} more"), "counts 1 more"),
         here: (near(&mut w, 0.5, 0), "refuses with 6"),
+    }
+}
+
+/// A jump inside a frame: the two samples before it are gone, and the third begins a frame.
+fn hole() -> Difference {
+    let mut w = World::new(48_000, 1);
+    let mut original = beside::original(&w);
+    for index in [0, 1, 48] {
+        original.push_near(0.5, index);
+        calls::face(&mut w, &Call::PushNear { sample: 0.5, index });
+    }
+    let counted = original.fields().near_count;
+    Difference {
+        input: "near samples 0, 1 and then 48",
+        rust: (format!("has {counted} in one block"), "has 3 in one block"),
+        here: (format!("has {} in it", w.word(14)), "has 1 in it"),
     }
 }
 

@@ -1,4 +1,4 @@
-//! Document 01's replay around the unchanged scan and tracker: a recording in, its log out.
+//! The scope paper's replay around the unchanged scan and tracker: a recording in, its log out.
 
 pub mod differ;
 pub mod maker;
@@ -27,11 +27,22 @@ const TOO_LARGE: u8 = 5;
 
 /// The log, each line with its line end.
 pub fn log(recording: &Recording) -> String {
-    let lines = match Run::new(recording) {
-        None => vec!["bad header".to_string()],
-        Some(run) => run.lines(),
+    told(recording).0
+}
+
+/// The log, and how many near samples met a hole.
+pub fn told(recording: &Recording) -> (String, u64) {
+    let (lines, holes) = match Run::new(recording) {
+        None => (vec!["bad header".to_string()], 0),
+        Some(mut run) => {
+            run.play();
+            (run.lines, run.holes)
+        }
     };
-    lines.iter().map(|line| format!("{line}\n")).collect()
+    (
+        lines.iter().map(|line| format!("{line}\n")).collect(),
+        holes,
+    )
 }
 
 /// An event, or what makes it bad.
@@ -71,6 +82,9 @@ struct Run<'a> {
     far: Side<'a>,
     near: Side<'a>,
     scan: CoarseScan,
+    /// The index of the last near sample that was taken.
+    last: u64,
+    holes: u64,
     tracker: Tracker,
     frames: u64,
     cycles: u64,
@@ -106,6 +120,8 @@ impl Run<'_> {
             far: side(&recording.far, field(4) as u64),
             near: side(&recording.near, field(5) as u64),
             scan: CoarseScan::new(rate, ceiling as u16),
+            last: 0,
+            holes: 0,
             tracker: Tracker::new(rate),
             frames: 0,
             cycles: 0,
@@ -113,11 +129,11 @@ impl Run<'_> {
         })
     }
 
-    fn lines(mut self) -> Vec<String> {
+    fn play(&mut self) {
         for at in 0..self.count {
             let Some(event) = self.event(at) else {
                 self.lines.push(format!("bad event {at}"));
-                return self.lines;
+                return;
             };
             if let Err(refusal) = self.done(event) {
                 self.lines.push(format!("event {at} refused {refusal}"));
@@ -129,7 +145,6 @@ impl Run<'_> {
         } else {
             "bad totals".to_string()
         });
-        self.lines
     }
 
     /// Nothing for a bad event.
@@ -187,23 +202,17 @@ impl Run<'_> {
                 return Err(TOO_LARGE);
             }
             let index = index as u64;
-            if !self.drops(index) && !sample.is_finite() {
+            if !self.scan.drops(self.last, index) && !sample.is_finite() {
                 return Err(NOT_FINITE);
             }
-            if self.scan.push_near(sample, index) {
+            self.holes += self.scan.meets_hole(self.last, index) as u64;
+            if self.scan.push_numbered(&mut self.last, sample, index) {
                 let word = frame_words(self.scan.scored());
                 self.lines.push(format!("frame {} {word}", self.frames));
                 self.frames += 1;
             }
         }
         Ok(())
-    }
-
-    /// Whether a sample of this index is dropped, unread, before a frame begins.
-    fn drops(&self, index: u64) -> bool {
-        let fields = self.scan.fields();
-        let under_way = fields.near_len > 0 || fields.near_count > 0;
-        !under_way && index % self.scan.bin_samples() as u64 != 0
     }
 
     fn cycle(&mut self, event: Event) -> Result<(), u8> {

@@ -15,7 +15,7 @@ use Rattle.answers.proofs.Refusals.{passed, passed-both}
 use Rattle.folds.specs.Sums.{allFinite}
 use Rattle.scan.specs.Bins.{inTable, geometryOf, envelopeLen, nearLen, windowLen, prefixLen, lags}
 use Rattle.scan.specs.State.{Buffers, World, finished, full, due, geometryRule, keepsRules, firstRefusals}
-use Rattle.scan.specs.Blocks.{dropped}
+use Rattle.scan.specs.Blocks.{dropped, heldAt}
 use Rattle.scan.specs.Calls.{allLengths, farRefusal, nearRefusal, scoreRefusal}
 use Rattle.scan.specs.declared.Geometry.{Geometry}
 use Rattle.scan.specs.declared.Scan.{Scan}
@@ -55,7 +55,7 @@ pub record NearTaken (w : World) (x : Float) (index : ℕ) : Type 0 where
   pub finite : lib.Ieee.Scale.finite x ≡ true
 
 pub near-taken : (w : World) (x : Float) (index : ℕ) → nearRefusal (w .scan) (w .buffers .levels) x index ≡ 0 → finished (w .scan .verdict) ≡ false
-    → dropped (w .scan .geometry) (w .scan .near) index ≡ false → NearTaken w x index
+    → dropped (w .scan .geometry) (heldAt (w .scan .near) index) index ≡ false → NearTaken w x index
 unfolding nearRefusal
 near-taken w x index z f d =
     let a = passed-both (firstRefusals (w .scan) _) _ z in
@@ -65,7 +65,7 @@ near-taken w x index z f d =
       length = eqb-true (length (w .buffers .levels)) _ (first-passed (w .scan) _ (a .0) .lengths);
       room = not-true (full (w .scan .geometry) (w .scan .near)) (b .0);
       small = ltb-true index limit (c .0);
-      finite = sym (pick-false (dropped (w .scan .geometry) (w .scan .near) index) true (finite x) d) ∙ passed (either (dropped (w .scan .geometry) (w .scan .near) index) (finite x)) 3 none (c .1) .0;
+      finite = sym (pick-false (dropped (w .scan .geometry) (heldAt (w .scan .near) index) index) true (finite x) d) ∙ passed (either (dropped (w .scan .geometry) (heldAt (w .scan .near) index) index) (finite x)) 3 none (c .1) .0;
     }
 
 pub record Scoreable (slack : ℕ) (w : World) : Type 0 where

@@ -17,11 +17,11 @@ use Rattle.answers.specs.Refusals.{require, before, none, notFinite, wrongLengt
 use Rattle.folds.specs.Sums.{at, allFinite, prefixSums, prefixSquares}
 use Rattle.scan.specs.Bins.{envelopeLen, windowLen}
 use Rattle.scan.specs.State.{Buffers, World, finished, full, due, firstRefusals}
-use Rattle.scan.specs.Blocks.{Seen, gather, dropped, summed, levelOf}
+use Rattle.scan.specs.Blocks.{Seen, gather, dropped, hole, heldAt, summed, levelOf}
 use Rattle.scan.specs.Scoring.{uncovered, windowOf, binAt, quiet, flat, scoresOf}
-use Rattle.scan.specs.Calls.{Observation, FarPush, NearPush, Clearing, Restart, allLengths, frameOf, windowIn, isUncovered, isAhead, withNearVerdict, farRefusal, pushedFar, nearRefusal, pushedNear, scoreRefusal, counted, judged, scoredFrame, observed, takenBy, clearing, clearRefusal, rearmed, discarded, resetRefusal, wasReset, reportRefusal, binSamples, ceilingSamples, regionOf, beyondCeiling, isFinished, isExhausted, framesOf, correlationOf}
+use Rattle.scan.specs.Calls.{Observation, FarPush, NearPush, Clearing, Restart, allLengths, frameOf, windowIn, isUncovered, isAhead, withNear, withNearVerdict, farRefusal, pushedFar, nearRefusal, pushedNear, scoreRefusal, countedFrame, judged, scoredFrame, observed, takenBy, clearing, clearRefusal, rearmed, discarded, resetRefusal, wasReset, reportRefusal, binSamples, ceilingSamples, regionOf, beyondCeiling, isFinished, isExhausted, framesOf, correlationOf}
 use Rattle.scan.specs.Steps
-use Rattle.scan.specs.Steps.{Report, «bin_samples», «ceiling_samples», region, «beyond_ceiling», frames, correlation, exhausted, Deed, near, score, rearm, discard, reset, ask, Call, far, deed, Response, refusalOf, takes, Step, step, withLagSums, reported, called}
+use Rattle.scan.specs.Steps.{Report, «bin_samples», «ceiling_samples», region, «beyond_ceiling», frames, correlation, exhausted, Deed, near, score, rearm, discard, reset, ask, Call, far, deed, Response, refusalOf, takes, Step, step, withLevels, withLagSums, reported, called}
 use Rattle.scan.specs.Streams.{AllF32, Item, own, foreign, after, answers, accepted, Lengths, lengthsOf}
 use Rattle.scan.specs.FourFacts.{isAccepted}
 use Rattle.scan.specs.Compact.{partAfter}
@@ -214,7 +214,7 @@ module _ (slack : ℕ) (keeps : ℕ → Type 0) (w : World) (sum : Float) (b : B
   Scored p q = Both (scoreStep p) (scoreStep q)
 
   judged-alike : (levels window : List Float) → Scored (judged w levels window) (judged v levels window)
-  unfolding judged counted
+  unfolding judged countedFrame
   judged-alike levels window =
       pick-both Scored (quiet window) _ _ _ _ (λ t. record { response = refl; world = emptied _ _ _ _ refl refl refl refl windowed })
       (λ t. pick-both Scored (flat levels) _ _ _ _ (λ u. record { response = refl; world = emptied _ _ _ _ refl refl refl refl windowed }) (λ u. record { response = refl; world = emptied _ _ _ _ refl refl refl refl counted-lengths }))
@@ -275,22 +275,27 @@ module _ (slack : ℕ) (keeps : ℕ → Type 0) (w : World) (sum : Float) (b : B
 
   -- ---- near samples
 
-  gather-alike : (x : Float) (index : ℕ) → SeenAlike (gather g (seenIn w) x index) (gather g (seenIn v) x index)
+  -- the same near side, with its levels in the one world and in the other
+  abbrev LevelsAlike : Near → Type 0
+  LevelsAlike m = SeenAlike (record { near = m; levels = w .buffers .levels }) (record { near = m; levels = b .levels })
+
+  -- a hole leaves no level to read
+  held-alike : (index : ℕ) → LevelsAlike (heldAt (w .scan .near) index)
+  held-alike index = pick-case LevelsAlike (hole (w .scan .near) index) _ _ (λ e. record { near = refl; length = h .seen .length; levels = λ i j. absurd (omega arith) }) (λ e. h .seen)
+
+  gather-alike : (m : Near) → LevelsAlike m → (x : Float) (index : ℕ) → SeenAlike (gather g (record { near = m; levels = w .buffers .levels }) x index) (gather g (record { near = m; levels = b .levels }) x index)
   unfolding gather
-  gather-alike x index =
-      pick-both SeenAlike (eqb (w .scan .near .count + 1) (g .decimation)) _ _ _ _
-      (λ c. record { near = refl; length = simp length-set (h .seen .length); levels = λ j k. stored j (eq-or-lt-of-le (omega arith)) })
-      (λ c. record { near = refl; length = h .seen .length; levels = h .seen .levels })
+  gather-alike m a x index =
+      pick-both SeenAlike (eqb (m .count + 1) (g .decimation)) _ _ _ _
+      (λ c. record { near = refl; length = simp length-set (a .length); levels = λ j k. stored j (eq-or-lt-of-le (omega arith)) })
+      (λ c. record { near = refl; length = a .length; levels = a .levels })
     where
-      n : ℕ
-      n = w .scan .near .len
-
       level : Float
-      level = levelOf g (summed (w .scan .near .sum) x)
+      level = levelOf g (summed (m .sum) x)
 
-      stored : (j : ℕ) → (j ≡ w .scan .near .len) ⊎ (j < w .scan .near .len) → at (set (b .levels) (w .scan .near .len) level) j ≡ at (set (w .buffers .levels) (w .scan .near .len) level) j
-      stored j (inl e) = rw e (stored-alike (b .levels) (w .buffers .levels) (w .scan .near .len) level (h .seen .length))
-      stored j (inr l) = getD-set-other (b .levels) n j level nan (omega arith) ∙ h .seen .levels j l ∙ sym (getD-set-other (w .buffers .levels) n j level nan (omega arith))
+      stored : (j : ℕ) → (j ≡ m .len) ⊎ (j < m .len) → at (set (b .levels) (m .len) level) j ≡ at (set (w .buffers .levels) (m .len) level) j
+      stored j (inl e) = rw e (stored-alike (b .levels) (w .buffers .levels) (m .len) level (a .length))
+      stored j (inr l) = getD-set-other (b .levels) (m .len) j level nan (omega arith) ∙ a .levels j l ∙ sym (getD-set-other (w .buffers .levels) (m .len) j level nan (omega arith))
 
   near-alike : (x : Float) (index : ℕ) → Both (nearStep (w .buffers) (pushedNear (w .scan) (w .buffers .levels) x index)) (nearStep (v .buffers) (pushedNear (v .scan) (b .levels) x index))
   unfolding called pushedNear
@@ -298,8 +303,9 @@ module _ (slack : ℕ) (keeps : ℕ → Type 0) (w : World) (sum : Float) (b : B
       rw (near-refusal x index)
       (if-refused-both P (nearRefusal (w .scan) (w .buffers .levels) x index) _ _ _ _ unchanged
       (λ z. pick-both P (finished (w .scan .verdict)) _ _ _ _ (λ f. unchanged)
-      (λ f. pick-both P (dropped g (w .scan .near) index) _ _ _ _ (λ d. unchanged)
-      (λ d. taken _ _ (gather-alike x index)))))
+      (λ f. pick-both P (dropped g (heldAt (w .scan .near) index) index) _ _ _ _
+      (λ d. record { response = refl; world = seen _ _ (held-alike index) })
+      (λ d. taken _ _ (gather-alike _ (held-alike index) x index)))))
     where
       P : NearPush → NearPush → Type 0
       P p q = Both (nearStep (w .buffers) p) (nearStep (v .buffers) q)
@@ -307,20 +313,20 @@ module _ (slack : ℕ) (keeps : ℕ → Type 0) (w : World) (sum : Float) (b : B
       unchanged : {a : Taking} → Both (step (takes a) (w .scan) (w .buffers)) (step (takes a) (v .scan) (v .buffers))
       unchanged {a} = record { response = refl; world = h }
 
-      taken : (t u : Seen) → SeenAlike t u → P (takenBy (w .scan) t) (takenBy (v .scan) u)
-      taken t u k =
+      -- with this near side and these near levels
+      seen : (t u : Seen) → SeenAlike t u → Alike slack keeps (record { scan = withNear (w .scan) (t .near); buffers = withLevels (w .buffers) (t .levels) }) (record { scan = withNear (v .scan) (u .near); buffers = withLevels (v .buffers) (u .levels) })
+      seen t u k =
           record {
-            response = ap (λ (n : Near). takes (pick (full g n) taking.Full taking.Taken)) (k .near);
-            world =
-                record {
-                  geometry = refl;
-                  verdict = refl;
-                  heard = h .heard;
-                  seen = k;
-                  lengths = λ i. record { levels = k .length i; window = h .lengths i .window; prefix = h .lengths i .prefix; squares = h .lengths i .squares; scores = h .lengths i .scores };
-                  lagSums = refl;
-                };
+            geometry = refl;
+            verdict = refl;
+            heard = h .heard;
+            seen = k;
+            lengths = λ i. record { levels = k .length i; window = h .lengths i .window; prefix = h .lengths i .prefix; squares = h .lengths i .squares; scores = h .lengths i .scores };
+            lagSums = refl;
           }
+
+      taken : (t u : Seen) → SeenAlike t u → P (takenBy (w .scan) t) (takenBy (v .scan) u)
+      taken t u k = record { response = ap (λ (n : Near). takes (pick (full g n) taking.Full taking.Taken)) (k .near); world = seen t u k }
 
   -- ---- far samples
 

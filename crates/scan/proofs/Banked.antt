@@ -14,13 +14,13 @@ use Rattle.floats.specs.Functions.{narrow}
 use Rattle.folds.specs.Sums.{zeros}
 use Rattle.scan.specs.Bins.{geometryOf, lags}
 use Rattle.scan.specs.State.{World, finished}
-use Rattle.scan.specs.Blocks.{dropped}
+use Rattle.scan.specs.Blocks.{dropped, heldAt}
 use Rattle.scan.specs.Scoring.{quiet, flat, peakOf, addScores, averagesOf, decision, Ruling, ruling}
-use Rattle.scan.specs.Calls.{FarPush, NearPush, Observation, Clearing, Restart, farRefusal, pushedFar, nearRefusal, pushedNear, frameOf, windowIn, isUncovered, isAhead, countedBy, scoreRefusal, counted, judged, scoredFrame, observed, clearRefusal, rearmed, discarded, resetRefusal, wasReset}
+use Rattle.scan.specs.Calls.{FarPush, NearPush, Observation, Clearing, Restart, farRefusal, pushedFar, nearRefusal, pushedNear, frameOf, windowIn, isUncovered, isAhead, countedBy, scoreRefusal, countedFrame, judged, scoredFrame, observed, clearRefusal, rearmed, discarded, resetRefusal, wasReset}
 use Rattle.scan.specs.Steps.{Call, near, score, rearm, discard, reset, ask, far, deed, refusalOf, changes, scores, called}
 use Rattle.scan.specs.Streams.{Item, own, foreign, after, Began}
 use Rattle.scan.specs.Along.{along}
-use Rattle.scan.specs.Banked.{counts, scoresIn, countOn, countedSince, sumsFrom, sumsOf, SumsOfCounted, answerBy, DecidesOnFour}
+use Rattle.scan.specs.Banked.{counts, scoresIn, productsIn, countOn, countedSince, sumsFrom, sumsOf, SumsOfCounted, answerBy, DecidesOnFour}
 use Rattle.scan.specs.declared.Frame.{Frame}
 use Rattle.scan.specs.declared.Frame.the-variants as frame
 use Rattle.scan.specs.declared.Geometry.{Geometry}
@@ -45,7 +45,7 @@ unfolding sumsFrom
 none-kept w b s = record { banked = b; sums = s }
 
 -- steps 1 to 5, by whether the frame counts
-count-case : (P : Bool → Observation → Type 0) (u a q f : Bool) (x y z t o : Observation) → P false x → P false y → P false z → P false t → P true o
+pub count-case : (P : Bool → Observation → Type 0) (u a q f : Bool) (x y z t o : Observation) → P false x → P false y → P false z → P false t → P true o
     → P (both (not u) (both (not a) (both (not q) (not f)))) (pick u x (pick a y (pick q z (pick f t o))))
 unfolding pick
 count-case P true a q f x y z t o p₁ p₂ p₃ p₄ p₅ = p₁
@@ -71,16 +71,16 @@ module _ (slack : ℕ) (w : World) (frames : List (List Float)) (k : Kept frames
   abbrev onward : List (List Float)
   onward = pick (ltb (length frames + 1) 4) (frames ++ (f ∷ [])) []
 
-  counted-kept : Kept onward (scoreStep (countedBy w (windowIn slack w) f ruled) .world)
+  counted-kept : Kept onward (scoreStep (countedBy w (windowIn slack w) f ruled (productsIn slack w)) .world)
   unfolding ruling
   counted-kept =
-      subst (λ (n : ℕ). Kept (pick (ltb (n + 1) 4) (frames ++ (f ∷ [])) []) (scoreStep (countedBy w (windowIn slack w) f ruled) .world)) (k .banked)
-      (pick-both (λ (l : List (List Float)) (r : Ruling). Kept l (scoreStep (countedBy w (windowIn slack w) f r) .world)) (ltb (w .scan .verdict .banked + 1) 4) _ _ _ _
+      subst (λ (n : ℕ). Kept (pick (ltb (n + 1) 4) (frames ++ (f ∷ [])) []) (scoreStep (countedBy w (windowIn slack w) f ruled (productsIn slack w)) .world)) (k .banked)
+      (pick-both (λ (l : List (List Float)) (r : Ruling). Kept l (scoreStep (countedBy w (windowIn slack w) f r (productsIn slack w)) .world)) (ltb (w .scan .verdict .banked + 1) 4) _ _ _ _
       (λ t. record { banked = omega (arith, k .banked, length-append frames (f ∷ [])); sums = with-this })
       (λ t. none-kept _ refl refl))
 
   score-kept : Kept (countOn slack frames w (deed score)) (called slack w (deed score) .world)
-  unfolding called observed scoredFrame judged counted pick
+  unfolding called observed scoredFrame judged countedFrame pick
   score-kept =
       if-refused-case (λ (o : Observation). Kept (pick (both (eqb (refusalOf (scores (o .scored .answer))) none) (counts slack w)) onward frames) (scoreStep o .world)) (scoreRefusal slack w) _ _
       (λ r. rw (ne-eqb (scoreRefusal slack w) none r) (record { banked = k .banked; sums = k .sums }))
@@ -97,7 +97,7 @@ module _ (slack : ℕ) (w : World) (frames : List (List Float)) (k : Kept frames
   call-kept (deed (near x index)) =
       if-refused-case (λ (p : NearPush). Kept frames (nearStep (w .buffers) p .world)) (nearRefusal (w .scan) (w .buffers .levels) x index) _ _ (λ r. same _ refl refl refl)
       (λ z. pick-case (λ (p : NearPush). Kept frames (nearStep (w .buffers) p .world)) (finished (w .scan .verdict)) _ _ (λ t. same _ refl refl refl)
-      (λ t. pick-case (λ (p : NearPush). Kept frames (nearStep (w .buffers) p .world)) (dropped g (w .scan .near) index) _ _ (λ d. same _ refl refl refl) (λ d. same _ refl refl refl)))
+      (λ t. pick-case (λ (p : NearPush). Kept frames (nearStep (w .buffers) p .world)) (dropped g (heldAt (w .scan .near) index) index) _ _ (λ d. same _ refl refl refl) (λ d. same _ refl refl refl)))
   call-kept (deed score) = score-kept
   call-kept (deed rearm) =
       if-refused-case (λ (p : Clearing). Kept (pick (eqb (refusalOf (changes (p .changed .answer))) none) [] frames) (clearStep (w .buffers) p .world)) (clearRefusal (w .scan) (w .buffers .lagSums)) _ _
@@ -118,14 +118,14 @@ module _ (slack : ℕ) (w : World) (frames : List (List Float)) (k : Kept frames
       subst (λ (n : ℕ). ruled .answer ≡ pick (ltb (n + 1) 4) (frame.Banked (narrow (peakOf f))) (decision g (averagesOf g (sumsOf g (frames ++ (f ∷ [])))))) (k .banked)
       (pick-both (λ (r : Ruling) (a : Frame). r .answer ≡ a) (ltb (w .scan .verdict .banked + 1) 4) _ _ _ _ (λ t. refl) (λ t. ap (λ (l : List Float). decision g (averagesOf g l)) with-this))
 
-  counts-answered : counts slack w ≡ true → scores (scoredFrame slack w .scored .answer) ≡ scores (scoring.Frame (answerBy g frames f))
-  unfolding scoredFrame judged counted
+  counts-answered : counts slack w ≡ true → scores (scoredFrame slack w .scored .answer) ≡ scores (scoring.Frame (answerBy g frames f) (productsIn slack w))
+  unfolding scoredFrame judged countedFrame
   counts-answered =
-      count-case (λ (b : Bool) (o : Observation). b ≡ true → scores (o .scored .answer) ≡ scores (scoring.Frame (answerBy g frames f))) (isUncovered slack w) (isAhead w) (quiet (windowIn slack w)) (flat (frameOf w)) _ _ _ _ _
+      count-case (λ (b : Bool) (o : Observation). b ≡ true → scores (o .scored .answer) ≡ scores (scoring.Frame (answerBy g frames f) (productsIn slack w))) (isUncovered slack w) (isAhead w) (quiet (windowIn slack w)) (flat (frameOf w)) _ _ _ _ _
       (λ b. absurd (false≢true b)) (λ b. absurd (false≢true b)) (λ b. absurd (false≢true b)) (λ b. absurd (false≢true b))
-      (λ b. ap (λ (a : Frame). scores (scoring.Frame a)) ruled-answer)
+      (λ b. ap (λ (a : Frame). scores (scoring.Frame a (productsIn slack w))) ruled-answer)
 
-  answered : refusalOf (called slack w (deed score) .response) ≡ none → counts slack w ≡ true → called slack w (deed score) .response ≡ scores (scoring.Frame (answerBy g frames f))
+  answered : refusalOf (called slack w (deed score) .response) ≡ none → counts slack w ≡ true → called slack w (deed score) .response ≡ scores (scoring.Frame (answerBy g frames f) (productsIn slack w))
   unfolding called observed
   answered a c =
       let e : observed slack w ≡ scoredFrame slack w = if-refused-none (scoreRefusal slack w) _ _ (sym (score-number slack w .is) ∙ a) in

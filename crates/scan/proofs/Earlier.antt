@@ -13,9 +13,9 @@ use Rattle.answers.specs.Refusals.{none}
 use Rattle.folds.specs.Sums.{allFinite, prefixSums, prefixSquares}
 use Rattle.scan.specs.Bins.{windowLen, prefixLen, lags}
 use Rattle.scan.specs.State.{World, finished}
-use Rattle.scan.specs.Blocks.{Heard, hearAll, Seen, gather, dropped}
+use Rattle.scan.specs.Blocks.{Heard, hearAll, Seen, gather, dropped, heldAt}
 use Rattle.scan.specs.Scoring.{windowOf, quiet, flat, scoresOf}
-use Rattle.scan.specs.Calls.{Observation, FarPush, NearPush, Clearing, frameOf, windowIn, isUncovered, isAhead, clearing, farRefusal, pushedFar, nearRefusal, pushedNear, scoreRefusal, counted, judged, scoredFrame, observed, clearRefusal, rearmed, discarded}
+use Rattle.scan.specs.Calls.{Observation, FarPush, NearPush, Clearing, frameOf, windowIn, isUncovered, isAhead, clearing, farRefusal, pushedFar, nearRefusal, pushedNear, scoreRefusal, countedFrame, judged, scoredFrame, observed, clearRefusal, rearmed, discarded}
 use Rattle.scan.specs.Steps.{Deed, near, score, rearm, discard, reset, ask, Call, far, deed, refusalOf, changes, called}
 use Rattle.scan.specs.Streams.{Item, own, foreign, after, heard, broughtBy, AllF32, FairDeed, FairCall, Fair, Lengths, lengthsOf}
 use Rattle.scan.specs.declared.Geometry.{Geometry}
@@ -84,7 +84,7 @@ module _ (slack : ℕ) (w : World) (s : Sound slack w) where
   near-passes x index =
       if-refused-case P (nearRefusal (w .scan) (w .buffers .levels) x index) _ _ (λ r. same)
       (λ z. pick-case P (finished (w .scan .verdict)) _ _ (λ f. same)
-      (λ f. pick-case P (dropped g (w .scan .near) index) _ _ (λ d. same)
+      (λ f. pick-case P (dropped g (heldAt (w .scan .near) index) index) _ _ (λ d. still slack w _ refl refl refl)
       (λ d. still slack w _ refl refl (ap (λ (n : ℕ). record { levels = n; window = length (w .buffers .window); prefix = length (w .buffers .prefix); squares = length (w .buffers .squares); scores = length (w .buffers .scores) }) (gather-length g _ x index)))))
     where
       P : NearPush → Type 0
@@ -100,8 +100,8 @@ module _ (slack : ℕ) (w : World) (s : Sound slack w) where
       (lengthsOf (w .buffers))
   windowed window e = λ i. record { levels = length (w .buffers .levels); window = e i; prefix = length (w .buffers .prefix); squares = length (w .buffers .squares); scores = length (w .buffers .scores) }
 
-  counted-passes : RightLengths g (w .buffers) → (levels window : List Float) → length window ≡ windowLen g → Consumes (counted w levels window)
-  unfolding counted scoresOf prefixSums prefixSquares
+  counted-passes : RightLengths g (w .buffers) → (levels window : List Float) → length window ≡ windowLen g → Consumes (countedFrame w levels window)
+  unfolding countedFrame scoresOf prefixSums prefixSquares
   counted-passes j levels window e =
       let p : length window + 1 ≡ prefixLen g = omega arith in
       let window-length = e ∙ sym (j .window) in

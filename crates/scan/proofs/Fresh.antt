@@ -40,7 +40,7 @@ fresh-sound slack g lent a =
             accepted = lit≤ tt;
             length = length-zeros (envelopeLen slack g);
           };
-      near = cleared-sound g a 0 (lent .levels) (omega arith);
+      near = cleared-sound g a 0 0 (lent .levels) (omega arith);
       verdict = record { banked = lit< tt; rests = λ e. both-and true true refl refl };
       lagSums = none-banked g;
     }

@@ -8,6 +8,7 @@ use lib.ListN.{length}
 use borrow.Author.Tests.{eq-eqb}
 use Rattle.answers.specs.Pick.{pick, pick-true, pick-all}
 use Rattle.answers.specs.Refusals.{none, wrongLength, notFinite, tooLarge, frameWaits, noFullFrame}
+use Rattle.answers.specs.Answers.{counted, flagged}
 use Rattle.floats.proofs.Levels.{AtMost, at-most-finite}
 use Rattle.scan.specs.Bins.{lags}
 use Rattle.scan.specs.State.{World, due, finished, firstRefusals}
@@ -64,11 +65,11 @@ module _ (slack : ℕ) (w : World) (s : Sound slack w) where
   report-fine «bin_samples» = (unfold binSamples pick in rw unrefused none-fine)
   report-fine «ceiling_samples» = (unfold ceilingSamples pick in rw unrefused none-fine)
   report-fine region = (unfold regionOf pick in rw unrefused none-fine)
-  report-fine «beyond_ceiling» = (unfold beyondCeiling pick in rw unrefused none-fine)
-  report-fine frames = (unfold framesOf pick in rw unrefused none-fine)
+  report-fine «beyond_ceiling» = (unfold beyondCeiling flagged pick in rw unrefused none-fine)
+  report-fine frames = (unfold framesOf counted pick in rw unrefused none-fine)
   report-fine correlation = (unfold correlationOf pick in rw unrefused none-fine)
-  report-fine Steps.finished = (unfold isFinished pick in rw unrefused none-fine)
-  report-fine exhausted = (unfold isExhausted pick in rw unrefused none-fine)
+  report-fine Steps.finished = (unfold isFinished flagged pick in rw unrefused none-fine)
+  report-fine exhausted = (unfold isExhausted flagged pick in rw unrefused none-fine)
 
   fine : (c : Call) → Fine (refusalOf (called slack w c .response))
   unfolding called

@@ -19,10 +19,10 @@ use Rattle.floats.specs.Functions.{zero64}
 use Rattle.floats.proofs.Levels.{AtMost, zero-at-most}
 use Rattle.folds.specs.Sums.{zeros, at}
 use Rattle.scan.specs.Bins.{envelopeLen, windowLen, lags}
-use Rattle.scan.specs.State.{Buffers, World, finished, full, idle}
-use Rattle.scan.specs.Blocks.{Seen, gather, dropped, firstBin, summed, levelOf}
-use Rattle.scan.specs.Scoring.{binAt, windowOf, quiet, flat, Ruling, ruling, scoresOf, addScores}
-use Rattle.scan.specs.Calls.{Observation, FarPush, NearPush, Clearing, frameOf, windowIn, isUncovered, isAhead, consumed, withNearVerdict, countedBy, clearing, farRefusal, pushedFar, nearRefusal, pushedNear, scoreRefusal, counted, judged, scoredFrame, observed, clearRefusal, rearmed, discarded}
+use Rattle.scan.specs.State.{Buffers, World, emptied, finished, full, idle, taken}
+use Rattle.scan.specs.Blocks.{Seen, gather, dropped, hole, heldAt, firstBin, summed, levelOf}
+use Rattle.scan.specs.Scoring.{binAt, windowOf, quiet, flat, Ruling, ruling, scoresOf, products, addScores}
+use Rattle.scan.specs.Calls.{Observation, FarPush, NearPush, Clearing, frameOf, windowIn, isUncovered, isAhead, consumed, withNearVerdict, countedBy, clearing, farRefusal, pushedFar, nearRefusal, pushedNear, scoreRefusal, countedFrame, judged, scoredFrame, observed, clearRefusal, rearmed, discarded}
 use Rattle.scan.specs.Steps.{Deed, near, score, rearm, discard, reset, ask, Call, far, deed, scores, called}
 use Rattle.scan.specs.Streams.{AllF32, FairDeed, FairCall, accepted}
 use Rattle.scan.specs.declared.Geometry.{Geometry}
@@ -33,6 +33,7 @@ use Rattle.scan.proofs.Settings.{Allowed, few, some, wide}
 use Rattle.scan.proofs.Sizes.{Size, add-size}
 use Rattle.scan.proofs.Scores.{scoreBits, Readable, scores-size}
 use Rattle.scan.proofs.Hears.{summed-at-most, block-level, hearAll-accepted, hearAll-length, hearAll-sound}
+use Rattle.scan.proofs.Held.{held-next, held-room, block-placed, stands}
 use Rattle.scan.proofs.Sound.{heardIn, seenIn, FarSound, NearSound, SumsSound, Sound}
 use Rattle.scan.proofs.Accepted.{far-taken, near-taken, scoreable, right-lengths}
 use Rattle.scan.proofs.Contracts.{farStep, nearStep, scoreStep, clearStep, reset-unchanged}
@@ -41,9 +42,9 @@ use Rattle.scan.proofs.Contracts.{farStep, nearStep, scoreStep, clearSt
 
 module _ (g : Geometry) (a : Allowed g) where
   gathered : (t : Seen) (x : Float) (index : ℕ) → NearSound g t → length (t .levels) ≡ g .frame → full g (t .near) ≡ false → index < limit → finite x ≡ true → T (fits binary32 x)
-      → NearSound g (gather g t x index)
+      → (idle (t .near) ≡ false → index ≡ t .near .last + 1) → dropped g (t .near) index ≡ false → NearSound g (gather g t x index)
   unfolding gather
-  gathered t x index s e r l f q =
+  gathered t x index s e r l f q o d =
       pick-case (NearSound g) (eqb (n .count + 1) (g .decimation)) _ _
       (λ c. record {
         partial = some g a;
@@ -51,11 +52,12 @@ module _ (g : Geometry) (a : Allowed g) where
         len = omega (arith, less);
         sum = zero-at-most;
         first = begun;
+        placed = λ i. place ∙ ap (λ (k : ℕ). firstBin g (t .near) index * g .decimation + k) (sym (block-placed g n (eqb-true (n .count + 1) (g .decimation) c)));
         levels =
             subst (All (AtMost 1)) (sym (ap (λ (k : ℕ). take k (set (t .levels) (n .len) level)) (add-one (n .len)) ∙ take-suc-set (t .levels) (n .len) level (omega (arith, less))))
             (all-append (AtMost 1) (take (n .len) (t .levels)) (level ∷ []) (s .levels) (block-level g a (n .count + 1) (summed (n .sum) x) (omega (arith, s .partial)) sum, tt));
       })
-      (λ c. record { partial = omega (arith, s .partial, eqb-false (n .count + 1) (g .decimation) c); whole = λ u. absurd (open-frame u); len = s .len; sum = sum; first = begun; levels = s .levels })
+      (λ c. record { partial = omega (arith, s .partial, eqb-false (n .count + 1) (g .decimation) c); whole = λ u. absurd (open-frame u); len = s .len; sum = sum; first = begun; placed = λ i. omega (arith, place); levels = s .levels })
     where
       n : Near
       n = t .near
@@ -72,15 +74,33 @@ module _ (g : Geometry) (a : Allowed g) where
       sum : AtMost (t .near .count + 1) (summed (t .near .sum) x)
       sum = summed-at-most (t .near .count) (t .near .sum) x (omega (arith, few g a, s .partial)) (s .sum) f q
 
+      place : index + 1 ≡ firstBin g (t .near) index * g .decimation + (taken g (t .near) + 1)
+      place = stands g (t .near) index (s .placed) o d
+
       begun : firstBin g (t .near) index * g .decimation < limit
       begun = pick-case (λ (z : ℕ). z * g .decimation < limit) (idle (t .near)) (index / g .decimation) (t .near .first) (λ i. lt-of-le-of-lt (div-mul-le-self index (g .decimation)) l) (λ i. s .first)
 
   -- a frame or none is left
-  consumed-sound : (t : Seen) (levels : List Float) → NearSound g t → NearSound g (record { near = consumed (t .near); levels = levels })
-  consumed-sound t levels s = record { partial = s .partial; whole = λ e. absurd (omega (arith, wide g a)); len = zero-le; sum = s .sum; first = s .first; levels = tt }
+  consumed-sound : (t : Seen) (levels : List Float) → full g (t .near) ≡ true → NearSound g t → NearSound g (record { near = consumed (t .near); levels = levels })
+  consumed-sound t levels f s =
+      record {
+        partial = s .partial;
+        whole = λ e. absurd (omega (arith, wide g a));
+        len = zero-le;
+        sum = s .sum;
+        first = s .first;
+        placed = λ i. absurd (true≢false (sym (both-and _ _ (eq-eqb (t .near .count) 0 (s .whole (eqb-true (t .near .len) (g .frame) f))) refl) ∙ i));
+        levels = tt;
+      }
 
-  pub cleared-sound : (first : ℕ) (levels : List Float) → first * g .decimation < limit → NearSound g (record { near = record { len = 0; sum = zero64; count = 0; first = first }; levels = levels })
-  cleared-sound first levels l = record { partial = some g a; whole = λ e. refl; len = zero-le; sum = zero-at-most; first = l; levels = tt }
+  pub cleared-sound : (first last : ℕ) (levels : List Float) → first * g .decimation < limit → NearSound g (record { near = record { len = 0; sum = zero64; count = 0; first = first; last = last }; levels = levels })
+  cleared-sound first last levels l =
+      record { partial = some g a; whole = λ e. refl; len = zero-le; sum = zero-at-most; first = l; placed = λ i. absurd (true≢false (sym (both-and true true refl refl) ∙ i)); levels = tt }
+
+  -- a hole drops the frame
+  held-sound : (t : Seen) (index : ℕ) → NearSound g t → NearSound g (record { near = heldAt (t .near) index; levels = t .levels })
+  held-sound t index s =
+      pick-case (λ (m : Near). NearSound g (record { near = m; levels = t .levels })) (hole (t .near) index) (emptied (t .near)) (t .near) (λ h. cleared-sound (t .near .first) (t .near .last) (t .levels) (s .first)) (λ h. s)
 
 -- none banked
 pub none-banked : (g : Geometry) → SumsSound g 0 (zeros (lags g))
@@ -125,11 +145,14 @@ module _ (slack : ℕ) (w : World) (s : Sound slack w) where
   near-sound x index t =
       if-refused-case P (nearRefusal (w .scan) (w .buffers .levels) x index) _ _ (λ r. s)
       (λ z. pick-case P (finished (w .scan .verdict)) _ _ (λ f. s)
-      (λ f. pick-case P (dropped g (w .scan .near) index) _ _ (λ d. s)
+      (λ f. let m = heldAt (w .scan .near) index in
+      let held = held-sound g (s .allowed) (seenIn w) index (s .near) in
+      pick-case P (dropped g m index) _ _
+      (λ d. record { allowed = s .allowed; far = s .far; near = held; verdict = record { banked = s .verdict .banked; rests = λ e. absurd (true≢false (sym e ∙ f)) }; lagSums = s .lagSums })
       (λ d. let c = near-taken w x index z f d in record {
         allowed = s .allowed;
         far = s .far;
-        near = gathered g (s .allowed) (seenIn w) x index (s .near) (c .length ∙ ap (λ (h : Geometry). h .frame) (sym (s .allowed .follows))) (c .room) (c .small) (c .finite) t;
+        near = gathered g (s .allowed) (record { near = m; levels = w .buffers .levels }) x index held (c .length ∙ ap (λ (h : Geometry). h .frame) (sym (s .allowed .follows))) (held-room g (s .allowed) (w .scan .near) index (c .room)) (c .small) (c .finite) t (held-next (w .scan .near) index) d;
         verdict = record { banked = s .verdict .banked; rests = λ e. absurd (true≢false (sym e ∙ f)) };
         lagSums = s .lagSums;
       })))
@@ -144,7 +167,7 @@ module _ (slack : ℕ) (w : World) (s : Sound slack w) where
       record {
         allowed = s .allowed;
         far = subst (λ (z : List Float). FarSound slack g (record { far = w .scan .far; envelope = z })) (sym e) (s .far);
-        near = consumed-sound g (s .allowed) (seenIn w) (b .levels) (s .near);
+        near = consumed-sound g (s .allowed) (seenIn w) (b .levels) f (s .near);
         verdict = record { banked = k; rests = λ u. both-and _ _ (eq-eqb (w .scan .near .count) 0 (s .near .whole (eqb-true (w .scan .near .len) (g .frame) f))) refl };
         lagSums = l;
       }
@@ -154,11 +177,11 @@ module _ (slack : ℕ) (w : World) (s : Sound slack w) where
       → Sound slack (record { scan = withNearVerdict (w .scan) (consumed (w .scan .near)) (w .scan .verdict); buffers = b })
   unruled f b e l = scored-sound f (w .scan .verdict) b (s .verdict .banked) e (subst (SumsSound g (w .scan .verdict .banked)) (sym l) (s .lagSums))
 
-  counted-sound : full g (w .scan .near) ≡ true → (levels window : List Float) → Readable g levels window → flat levels ≡ false → Sound slack (scoreStep (counted w levels window) .world)
-  unfolding counted ruling scoresOf
+  counted-sound : full g (w .scan .near) ≡ true → (levels window : List Float) → Readable g levels window → flat levels ≡ false → Sound slack (scoreStep (countedFrame w levels window) .world)
+  unfolding countedFrame ruling scoresOf
   counted-sound f levels window r e =
       let scores = scoresOf g levels window in
-      pick-case (λ (r : Ruling). Sound slack (scoreStep (countedBy w window scores r) .world)) (ltb (w .scan .verdict .banked + 1) 4) _ _
+      pick-case (λ (r : Ruling). Sound slack (scoreStep (countedBy w window scores r (products g levels window)) .world)) (ltb (w .scan .verdict .banked + 1) 4) _ _
       (λ t. scored-sound f _ _ (ltb-true (w .scan .verdict .banked + 1) 4 t) refl
       (one-banked g (w .scan .verdict .banked) (w .buffers .lagSums) scores (s .verdict .banked) (s .lagSums) (length-table _ (lags g)) (scores-size g (s .allowed) levels window r e)))
       (λ t. scored-sound f _ _ (lit< tt) refl (none-banked g))
@@ -204,14 +227,14 @@ module _ (slack : ℕ) (w : World) (s : Sound slack w) where
       P p = Sound slack (scoreStep p .world)
 
   -- no frame is left, nor a block of one
-  clear-sound : (first : ℕ) (v : Verdict) → first * g .decimation < limit → v .banked ≡ 0
-      → Sound slack (clearStep (w .buffers) (clearing (w .scan) (w .buffers .lagSums) (withNearVerdict (w .scan) (record { len = 0; sum = zero64; count = 0; first = first }) v)) .world)
-  clear-sound first v l k =
+  clear-sound : (first last : ℕ) (v : Verdict) → first * g .decimation < limit → v .banked ≡ 0
+      → Sound slack (clearStep (w .buffers) (clearing (w .scan) (w .buffers .lagSums) (withNearVerdict (w .scan) (record { len = 0; sum = zero64; count = 0; first = first; last = last }) v)) .world)
+  clear-sound first last v l k =
       if-refused-case (λ (p : Clearing). Sound slack (clearStep (w .buffers) p .world)) (clearRefusal (w .scan) (w .buffers .lagSums)) _ _ (λ r. s)
       (λ z. record {
         allowed = s .allowed;
         far = s .far;
-        near = cleared-sound g (s .allowed) first (w .buffers .levels) l;
+        near = cleared-sound g (s .allowed) first last (w .buffers .levels) l;
         verdict = record { banked = omega arith; rests = λ e. both-and true true refl refl };
         lagSums = subst (λ (n : ℕ). SumsSound g n (zeros (lags g))) (sym k) (none-banked g);
       })
@@ -220,8 +243,8 @@ module _ (slack : ℕ) (w : World) (s : Sound slack w) where
   unfolding called rearmed discarded
   deed-sound (near x index) f = near-sound x index f
   deed-sound score f = score-sound
-  deed-sound rearm f = clear-sound 0 _ (omega arith) refl
-  deed-sound discard f = clear-sound (w .scan .near .first) _ (s .near .first) refl
+  deed-sound rearm f = clear-sound 0 0 _ (omega arith) refl
+  deed-sound discard f = clear-sound (w .scan .near .first) (w .scan .near .last) _ (s .near .first) refl
   deed-sound reset f = subst (Sound slack) (sym (reset-unchanged slack w f)) s
   deed-sound (ask r) f = s
 

@@ -10,9 +10,9 @@ use lib.Ieee.{Float}
 use borrow.Author.Tests.{eqb-true, ne-eqb, not-false}
 use Rattle.answers.specs.Pick.{pick, pick-true, pick-case}
 use Rattle.scan.specs.State.{World, finished, full, idle}
-use Rattle.scan.specs.Blocks.{Seen, gather, dropped, onGrid, firstBin}
+use Rattle.scan.specs.Blocks.{Seen, gather, dropped, heldAt, onGrid, firstBin}
 use Rattle.scan.specs.Scoring.{quiet, flat}
-use Rattle.scan.specs.Calls.{Observation, FarPush, NearPush, Clearing, frameOf, windowIn, isUncovered, isAhead, withNearVerdict, farRefusal, pushedFar, nearRefusal, pushedNear, scoreRefusal, counted, judged, scoredFrame, observed, clearing, clearRefusal, rearmed, discarded}
+use Rattle.scan.specs.Calls.{Observation, FarPush, NearPush, Clearing, frameOf, windowIn, isUncovered, isAhead, withNearVerdict, farRefusal, pushedFar, nearRefusal, pushedNear, scoreRefusal, countedFrame, judged, scoredFrame, observed, clearing, clearRefusal, rearmed, discarded}
 use Rattle.scan.specs.Steps.{Deed, near, score, rearm, discard, reset, ask, Call, far, deed, Response, refusalOf, called}
 use Rattle.scan.specs.Streams.{begins, FairDeed, FairCall, LateDeed, LateCall, Fair, Late, Item, own, foreign, answers, cleanAnswers, cleaned, asCall, cleanCall}
 use Rattle.scan.specs.declared.Geometry.{Geometry}
@@ -24,6 +24,7 @@ use Rattle.scan.proofs.Masked.{masked-finite, masked-f32}
 use Rattle.scan.proofs.Numbered.{near-number}
 use Rattle.scan.proofs.Hears.{masked-alike}
 use Rattle.scan.proofs.Earlier.{call-passes}
+use Rattle.scan.proofs.Held.{held-under-way, held-idle}
 use Rattle.scan.proofs.Sound.{Sound}
 use Rattle.scan.proofs.Accepted.{scoreable}
 use Rattle.scan.proofs.Contracts.{farStep, nearStep, scoreStep, clearStep, reset-unchanged}
@@ -52,27 +53,31 @@ module _ (slack block : ℕ) (w : World) (s : Sound slack w) (b : BeganLate bloc
 
   -- ---- every call leaves it so
 
-  late-bin : (index : ℕ) → finished (w .scan .verdict) ≡ false → dropped g (w .scan .near) index ≡ false → (T (begins (w .scan) index) → (block + g .span) * g .decimation ≤ index)
-      → block + g .span ≤ firstBin g (w .scan .near) index
+  held-late : (index : ℕ) → idle (heldAt (w .scan .near) index) ≡ false → block + g .span ≤ heldAt (w .scan .near) index .first
+  held-late index = held-under-way (λ (m : Near). block + g .span ≤ m .first) (w .scan .near) index b
+
+  late-bin : (index : ℕ) → finished (w .scan .verdict) ≡ false → dropped g (heldAt (w .scan .near) index) index ≡ false → (T (begins (w .scan) index) → (block + g .span) * g .decimation ≤ index)
+      → block + g .span ≤ firstBin g (heldAt (w .scan .near) index) index
   late-bin index f d late =
-      pick-case (λ (z : ℕ). block + g .span ≤ z) (idle (w .scan .near)) _ _
-      (λ i. le-div-iff-mul-le (some g (s .allowed)) .1 (late (holds _ (both-and _ _ (ap not f) (both-and _ _ i (not-false (onGrid g index) (sym (pick-true (idle (w .scan .near)) _ false i) ∙ d)))))))
-      (λ i. b i)
+      let m = heldAt (w .scan .near) index in
+      pick-case (λ (z : ℕ). block + g .span ≤ z) (idle m) _ _
+      (λ i. le-div-iff-mul-le (some g (s .allowed)) .1 (late (holds _ (both-and _ _ (ap not f) (both-and _ _ (held-idle (w .scan .near) index i) (not-false (onGrid g index) (sym (pick-true (idle m) _ false i) ∙ d)))))))
+      (held-late index)
 
   near-late : (x : Float) (index : ℕ) → LateDeed slack block w (near x index) → BeganLate block (nearStep (w .buffers) (pushedNear (w .scan) (w .buffers .levels) x index) .world)
   unfolding called pushedNear gather
   near-late x index late =
       if-refused-case P (nearRefusal (w .scan) (w .buffers .levels) x index) _ _ (λ r. b)
       (λ z. pick-case P (finished (w .scan .verdict)) _ _ (λ f. b)
-      (λ f. pick-case P (dropped g (w .scan .near) index) _ _ (λ d. b)
+      (λ f. pick-case P (dropped g (heldAt (w .scan .near) index) index) _ _ (λ d. held-late index)
       (λ d. let l = late-bin index f d (late (near-number slack w x index .is ∙ z)) in
-      pick-case (λ (t : Seen). idle (t .near) ≡ false → block + g .span ≤ t .near .first) (eqb (w .scan .near .count + 1) (g .decimation)) _ _ (λ c i. l) (λ c i. l))))
+      pick-case (λ (t : Seen). idle (t .near) ≡ false → block + g .span ≤ t .near .first) (eqb (heldAt (w .scan .near) index .count + 1) (g .decimation)) _ _ (λ c i. l) (λ c i. l))))
     where
       P : NearPush → Type 0
       P p = BeganLate block (nearStep (w .buffers) p .world)
 
   scored-late : block + g .span ≤ w .scan .near .first → BeganLate block (scoreStep (scoredFrame slack w) .world)
-  unfolding scoredFrame judged counted
+  unfolding scoredFrame judged countedFrame
   scored-late l =
       pick-case P (isUncovered slack w) _ _ (λ t i. l)
       (λ t. pick-case P (isAhead w) _ _ (λ u i. l) (λ u. pick-case P (quiet (windowIn slack w)) _ _ (λ q i. l) (λ q. pick-case P (flat (frameOf w)) _ _ (λ e i. l) (λ e i. l))))

@@ -1,5 +1,7 @@
 -- Of the definitions: scripted scans, by computation.
 pub mod Runs
+-- What an answer tells is the whole answer.
+pub mod Faithful
 -- The rival of step 7, and the lag sums of four frames (Banked), in a reader's words.
 pub mod Rival
 -- Laws of choices and lists, allowed settings, sizes of rounded results and of scores.
@@ -10,6 +12,7 @@ pub mod Scores
 -- A stream's own state is never broken (Healthy).
 pub mod Masked
 pub mod Hears
+pub mod Held
 pub mod Sound
 pub mod Accepted
 pub mod Contracts
@@ -17,6 +20,8 @@ pub mod Numbered
 pub mod Keeps
 pub mod Fresh
 pub mod Banked
+-- The work of one frame.
+pub mod Work
 pub mod Earlier
 pub mod Healthy
 -- Two worlds that agree on the far blocks that are kept (Alike); far pushes joined, parted and silenced; a log with silence where no frame reads (Compact).
@@ -29,3 +34,5 @@ pub mod Scratch
 pub mod Late
 pub mod Forgets
 pub mod FourFacts
+-- Holes in the near numbering.
+pub mod Holes

@@ -6,9 +6,9 @@ use lib.Ieee.{Float}
 use Rattle.answers.specs.Pick.{pick-case}
 use Rattle.answers.specs.Refusals.{none, ifRefused}
 use Rattle.scan.specs.State.{World, finished}
-use Rattle.scan.specs.Blocks.{dropped}
+use Rattle.scan.specs.Blocks.{dropped, heldAt}
 use Rattle.scan.specs.Scoring.{quiet, flat}
-use Rattle.scan.specs.Calls.{NearPush, Observation, isUncovered, isAhead, farRefusal, pushedFar, nearRefusal, pushedNear, scoreRefusal, counted, judged, scoredFrame, observed, clearRefusal, rearmed, discarded, resetRefusal, wasReset}
+use Rattle.scan.specs.Calls.{NearPush, Observation, isUncovered, isAhead, farRefusal, pushedFar, nearRefusal, pushedNear, scoreRefusal, countedFrame, judged, scoredFrame, observed, clearRefusal, rearmed, discarded, resetRefusal, wasReset}
 use Rattle.scan.specs.Steps
 use Rattle.scan.specs.Steps.{near, refusalOf, changes, takes, scores}
 use Rattle.scan.specs.declared.Taking.{Taking}
@@ -32,13 +32,13 @@ module _ (slack : ℕ) (w : World) where
   near-number x index =
       numbered _ (nearRefusal (w .scan) (w .buffers .levels) x index) _ _ refl
       (pick-case P (finished (w .scan .verdict)) _ _ (λ f. record { is = refl })
-      (λ f. pick-case P (dropped (w .scan .geometry) (w .scan .near) index) _ _ (λ d. record { is = refl }) (λ d. record { is = pick-case (λ (a : Taking). refusalOf (takes a) ≡ none) _ _ _ (λ t. refl) (λ t. refl) })) .is)
+      (λ f. pick-case P (dropped (w .scan .geometry) (heldAt (w .scan .near) index) index) _ _ (λ d. record { is = refl }) (λ d. record { is = pick-case (λ (a : Taking). refusalOf (takes a) ≡ none) _ _ _ (λ t. refl) (λ t. refl) })) .is)
     where
       P : NearPush → Type 0
       P = Numbered (λ p. refusalOf (takes (p .took .answer))) none
 
   pub score-number : Numbered (λ p. refusalOf (scores (p .scored .answer))) (scoreRefusal slack w) (observed slack w)
-  unfolding observed scoredFrame judged counted
+  unfolding observed scoredFrame judged countedFrame
   score-number =
       numbered _ (scoreRefusal slack w) _ _ refl
       (pick-case P (isUncovered slack w) _ _ (λ t. record { is = refl })

@@ -11,7 +11,7 @@ use Rattle.folds.specs.Sums.{prefixSums, prefixSquares}
 use Rattle.scan.specs.Bins.{windowLen, prefixLen, lags}
 use Rattle.scan.specs.State.{Buffers, World, due, firstRefusals}
 use Rattle.scan.specs.Scoring.{windowOf, quiet, flat, scoresOf}
-use Rattle.scan.specs.Calls.{Observation, allLengths, frameOf, windowIn, isUncovered, isAhead, scoreRefusal, counted, judged, scoredFrame, observed}
+use Rattle.scan.specs.Calls.{Observation, allLengths, frameOf, windowIn, isUncovered, isAhead, scoreRefusal, countedFrame, judged, scoredFrame, observed}
 use Rattle.scan.specs.Steps.{Deed, near, score, rearm, discard, reset, ask, Call, far, deed, Response, Step, called}
 use Rattle.scan.specs.Streams.{Item, own, foreign, after, answers}
 use Rattle.scan.specs.declared.Geometry.{Geometry}
@@ -75,7 +75,7 @@ module _ (slack : ℕ) (w : World) (b : Buffers) (e : ScratchLengths (w .buffers
       cc
 
   judged-scratch : (levels window : List Float) → Both (judged w levels window) (judged v levels window)
-  unfolding judged counted
+  unfolding judged countedFrame
   judged-scratch levels window =
       let windowed : ScratchLengths (withWindow (w .buffers) window) (withWindow (v .buffers) window) = record { window = refl; prefix = e .prefix; squares = e .squares; scores = e .scores } in
       pick-both Both (quiet window) _ _ _ _ (λ t. record { response = refl; world = around-alike _ _ windowed _ _ _ _ })
@@ -140,7 +140,7 @@ module _ (slack : ℕ) (w : World) where
   scored-allowed z = let a = first-passed (w .scan) _ (passed-both (firstRefusals (w .scan) _) _ z .0) in record { inside = a .inside; follows = follows-by (w .scan) (a .rules) }
 
   judged-lengths : RightLengths g (w .buffers) → (levels window : List Float) → length window ≡ windowLen g → Keeps (judged w levels window)
-  unfolding judged counted scoresOf prefixSums prefixSquares
+  unfolding judged countedFrame scoresOf prefixSums prefixSquares
   judged-lengths j levels window e =
       let p : length window + 1 ≡ prefixLen g = omega arith in
       pick-case Keeps (quiet window) _ _ (λ t. record { window = e ∙ sym (j .window); prefix = refl; squares = refl; scores = refl })

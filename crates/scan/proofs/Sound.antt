@@ -1,5 +1,5 @@
 -- What every call keeps true of a stream's own state and buffers, part by part. The state rules follow, so that 1 and 3 refuse nothing.
-use Prim.Native.Nat.{ℕ, _*_, _/_, _%_, _≤_, _<_}
+use Prim.Native.Nat.{ℕ, _+_, _*_, _/_, _%_, _≤_, _<_}
 use mathlib.Core.Path.{_≡_, sym, ap, _∙_}
 use mathlib.Core.List.{List}
 use mathlib.Core.Bool.{Bool, true, not}
@@ -13,7 +13,7 @@ use Rattle.answers.specs.Refusals.{require, none}
 use Rattle.answers.specs.Numbers.{limit}
 use Rattle.floats.proofs.Levels.{AtMost, at-most-finite}
 use Rattle.scan.specs.Bins.{envelopeLen, lags}
-use Rattle.scan.specs.State.{World, finished, full, idle, due, farRule, nearRule, verdictRule, keepsRules, firstRefusals}
+use Rattle.scan.specs.State.{World, finished, full, idle, taken, due, farRule, nearRule, verdictRule, keepsRules, firstRefusals}
 use Rattle.scan.specs.Blocks.{Heard, Seen}
 use Rattle.scan.specs.Steps.{near, far, scores}
 use Rattle.scan.specs.Streams.{accepted}
@@ -25,6 +25,7 @@ use Rattle.scan.proofs.Settings.{Allowed, same-geometry}
 use Rattle.scan.proofs.Sizes.{Size}
 use Rattle.scan.proofs.Scores.{scoreBits}
 use Rattle.scan.proofs.Hears.{HeardSound, block-now}
+use Rattle.scan.proofs.Held.{Placed}
 
 abbrev pub heardIn : World → Heard
 heardIn w = record { far = w .scan .far; envelope = w .buffers .envelope }
@@ -43,6 +44,7 @@ pub record NearSound (g : Geometry) (t : Seen) : Type 0 where
   pub len : t .near .len ≤ g .frame
   pub sum : AtMost (t .near .count) (t .near .sum)
   pub first : t .near .first * g .decimation < limit
+  pub placed : Placed g (t .near)
   pub levels : All (AtMost 1) (take (t .near .len) (t .levels))
 
 pub record VerdictSound (n : Near) (v : Verdict) : Type 0 where
@@ -80,7 +82,8 @@ near-rule g t s =
     both-and _ _ (lt-ltb (n .count) (g .decimation) (s .partial))
     (both-and _ _ (either-or (not (full g n)) (eqb (n .count) 0) (λ e. eq-eqb (n .count) 0 (s .whole (eqb-true (n .len) (g .frame) (not-false (full g n) e)))))
     (both-and _ _ (le-leb (n .len) (g .frame) (s .len))
-    (both-and _ _ (at-most-finite (n .count) (n .sum) (s .sum)) (lt-ltb (n .first * g .decimation) limit (s .first)))))
+    (both-and _ _ (at-most-finite (n .count) (n .sum) (s .sum)) (both-and _ _ (lt-ltb (n .first * g .decimation) limit (s .first))
+    (either-or (idle n) _ (λ i. eq-eqb (n .last + 1) (n .first * g .decimation + taken g n) (s .placed i)))))))
 
 verdict-rule : (n : Near) (v : Verdict) → VerdictSound n v → verdictRule n v ≡ true
 unfolding verdictRule

@@ -13,7 +13,7 @@ use Rattle.floats.specs.Functions.{narrow}
 use Rattle.folds.specs.Sums.{zeros}
 use Rattle.scan.specs.Bins.{lags}
 use Rattle.scan.specs.State.{World}
-use Rattle.scan.specs.Scoring.{quiet, flat, scoresOf, peakOf, addScores, averagesOf, decision}
+use Rattle.scan.specs.Scoring.{quiet, flat, scoresOf, products, peakOf, addScores, averagesOf, decision}
 use Rattle.scan.specs.Calls.{frameOf, windowIn, isUncovered, isAhead}
 use Rattle.scan.specs.Steps.{Call, near, score, rearm, discard, reset, ask, far, deed, refusalOf, scores, called}
 use Rattle.scan.specs.Streams.{Item, after, accepted, Began}
@@ -30,6 +30,10 @@ counts slack w = both (not (isUncovered slack w)) (both (not (isAhead w)) (both 
 -- its scores
 abbrev pub scoresIn : ℕ → World → List Float
 scoresIn slack w = scoresOf (w .scan .geometry) (frameOf w) (windowIn slack w)
+
+-- the products that its lag sums take
+abbrev pub productsIn : ℕ → World → ℕ
+productsIn slack w = products (w .scan .geometry) (frameOf w) (windowIn slack w)
 
 -- The scores of the frames that counted since the last decision, discard or rearm, in order, after one call more. The fourth is a decision.
 abbrev pub countOn : ℕ → List (List Float) → World → Call → List (List Float)
@@ -72,4 +76,4 @@ DecidesOnFour =
     (slack rate ceiling : ℕ) (w : World) (items : List Item) → Began slack rate ceiling w
     → let v = after slack w items in
     accepted slack v (deed score) → counts slack v ≡ true
-    → called slack v (deed score) .response ≡ scores (scoring.Frame (answerBy (v .scan .geometry) (countedSince slack w items) (scoresIn slack v)))
+    → called slack v (deed score) .response ≡ scores (scoring.Frame (answerBy (v .scan .geometry) (countedSince slack w items) (scoresIn slack v)) (productsIn slack v))

@@ -1,4 +1,4 @@
--- Document 01, "Bins and blocks", first two paragraphs: what follows from the rate and the ceiling, and the lengths of the lent buffers.
+-- SPECIFICATION 6, bins and buffers: what follows from the rate and the ceiling, and the lengths of the lent buffers.
 use Prim.Native.Nat.{ℕ, _+_, _*_, _/_, max}
 use mathlib.Core.Bool.{Bool}
 use lib.Dec.{eqb}

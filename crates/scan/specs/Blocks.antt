@@ -1,4 +1,4 @@
--- Document 01, "Bins and blocks", last paragraph: how far and near samples become levels.
+-- SPECIFICATION 6, blocks: how far and near samples become levels.
 use Prim.Native.Nat.{ℕ, _+_, _/_, _%_}
 use mathlib.Core.List.{List, [], _∷_}
 use mathlib.Core.Bool.{Bool, not}
@@ -8,7 +8,7 @@ use lib.Ieee.{Float, binary64, add, div}
 use Rattle.answers.specs.Pick.{pick, both}
 use Rattle.floats.specs.Functions.{zero64, whole, magnitude, narrow}
 use Rattle.scan.specs.Bins.{envelopeLen}
-use Rattle.scan.specs.State.{idle}
+use Rattle.scan.specs.State.{emptied, idle}
 use Rattle.scan.specs.declared.Geometry.{Geometry}
 use Rattle.scan.specs.declared.Far.{Far}
 use Rattle.scan.specs.declared.Near.{Near}
@@ -45,10 +45,19 @@ unfoldable pub hearAll : ℕ → Geometry → Heard → List Float → Heard
 hearAll slack g h [] = h
 hearAll slack g h (x ∷ xs) = hearAll slack g (hear slack g h x) xs
 
--- ---- near: a frame begins only on an index that is a multiple of D; samples before one are dropped. Later samples are taken as consecutive, indices not compared.
+-- ---- near: a frame begins only on an index that is a multiple of D; samples before one are dropped. Later samples are consecutive.
+-- A sample whose index is not the last one plus one meets a hole: the frame under way is dropped, and the sample may begin another (request d).
 
 abbrev pub onGrid : Geometry → ℕ → Bool
 onGrid g index = eqb (index % g .decimation) 0
+
+-- a frame, or a block of one, is under way and does not go on with this index, be it larger, equal or smaller
+abbrev pub hole : Near → ℕ → Bool
+hole n index = both (not (idle n)) (not (eqb index (n .last + 1)))
+
+-- the near side as a sample with this index finds it
+abbrev pub heldAt : Near → ℕ → Near
+heldAt n index = pick (hole n index) (emptied n) n
 
 -- no frame is under way, and the sample begins none
 abbrev pub dropped : Geometry → Near → ℕ → Bool
@@ -68,10 +77,10 @@ unfoldable pub gather : Geometry → Seen → Float → ℕ → Seen
 gather g t x index =
     pick (eqb (t .near .count + 1) (g .decimation))
     (record {
-      near = record { len = t .near .len + 1; sum = zero64; count = 0; first = firstBin g (t .near) index };
+      near = record { len = t .near .len + 1; sum = zero64; count = 0; first = firstBin g (t .near) index; last = index };
       levels = set (t .levels) (t .near .len) (levelOf g (summed (t .near .sum) x));
     })
     (record {
-      near = record { len = t .near .len; sum = summed (t .near .sum) x; count = t .near .count + 1; first = firstBin g (t .near) index };
+      near = record { len = t .near .len; sum = summed (t .near .sum) x; count = t .near .count + 1; first = firstBin g (t .near) index; last = index };
       levels = t .levels;
     })

@@ -1,5 +1,5 @@
 -- Every public call of the scan: when it is refused, what it answers, and what it leaves in the state and in the buffers that it is lent.
--- Document 01, "Refusal numbers" and "Scoring a full frame"; what is cleared is coarse.rs's.
+-- SPECIFICATION 3, 7 and 8; what is cleared is coarse.rs's.
 use Prim.Native.Nat.{ℕ, _+_}
 use mathlib.Core.List.{List}
 use mathlib.Core.Bool.{Bool, true, not}
@@ -9,14 +9,19 @@ use lib.Ieee.{Float}
 use lib.Ieee.Scale.{finite}
 use Rattle.answers.specs.Pick.{pick, both, either}
 use Rattle.answers.specs.Refusals.{require, before, ifRefused, none, outsideTable, wrongLength, notFinite, tooLarge, frameWaits, noFullFrame}
+use Rattle.answers.specs.declared.Change.{Change}
+use Rattle.answers.specs.declared.Change.the-variants as change
+use Rattle.answers.specs.declared.Count.{Count}
+use Rattle.answers.specs.declared.Flag.{Flag}
+use Rattle.answers.specs.Answers.{counted, flagged}
 use Rattle.answers.specs.Numbers.{limit}
 use Rattle.units.specs.Units.{bins, inSamples}
 use Rattle.floats.specs.Functions.{zero64, narrow}
 use Rattle.folds.specs.Sums.{zeros, allFinite, prefixSums, prefixSquares}
 use Rattle.scan.specs.Bins.{inTable, geometryOf, envelopeLen, nearLen, windowLen, prefixLen, lags}
-use Rattle.scan.specs.State.{Buffers, World, newFar, newNear, newVerdict, newScan, finished, full, due, firstRefusals}
-use Rattle.scan.specs.Blocks.{Heard, hearAll, Seen, gather, dropped}
-use Rattle.scan.specs.Scoring.{uncovered, ahead, windowOf, quiet, flat, scoresOf, peakOf, addScores, Ruling, ruling}
+use Rattle.scan.specs.State.{Buffers, World, newFar, newNear, newVerdict, newScan, emptied, finished, full, due, firstRefusals}
+use Rattle.scan.specs.Blocks.{Heard, hearAll, Seen, gather, dropped, heldAt}
+use Rattle.scan.specs.Scoring.{uncovered, ahead, windowOf, quiet, flat, scoresOf, products, peakOf, addScores, Ruling, ruling}
 use Rattle.scan.specs.declared.Geometry.{Geometry}
 use Rattle.scan.specs.declared.Far.{Far}
 use Rattle.scan.specs.declared.Near.{Near}
@@ -26,8 +31,6 @@ use Rattle.scan.specs.declared.Verdict.{Verdict}
 use Rattle.scan.specs.declared.Scan.{Scan}
 use Rattle.scan.specs.declared.Frame.{Frame}
 use Rattle.scan.specs.declared.Frame.the-variants as frame
-use Rattle.scan.specs.declared.Change.{Change}
-use Rattle.scan.specs.declared.Change.the-variants as change
 use Rattle.scan.specs.declared.Changed.{Changed}
 use Rattle.scan.specs.declared.Taking.{Taking}
 use Rattle.scan.specs.declared.Taking.the-variants as taking
@@ -37,10 +40,6 @@ use Rattle.scan.specs.declared.Scoring.the-variants as scoring
 use Rattle.scan.specs.declared.Scored.{Scored}
 use Rattle.scan.specs.declared.RegionReport.{RegionReport}
 use Rattle.scan.specs.declared.RegionReport.the-variants as region
-use Rattle.scan.specs.declared.FlagReport.{FlagReport}
-use Rattle.scan.specs.declared.FlagReport.the-variants as flag
-use Rattle.scan.specs.declared.CountReport.{CountReport}
-use Rattle.scan.specs.declared.CountReport.the-variants as count
 use Rattle.scan.specs.declared.LevelReport.{LevelReport}
 use Rattle.scan.specs.declared.LevelReport.the-variants as level
 use Rattle.scan.specs.declared.SamplesReport.{SamplesReport}
@@ -132,17 +131,17 @@ pub record NearPush : Type 0 where
   pub took : Took
   pub levels : List Float
 
--- A finished scan accepts it after 1 to 3, whatever it holds. A dropped sample is not read.
+-- A finished scan accepts it after 1 to 3, whatever it holds. A dropped sample is not read. A full frame waits, also for a sample that would meet a hole.
 unfoldable pub nearRefusal : Scan → List Float → Float → ℕ → ℕ
 nearRefusal s levels x index =
     before (firstRefusals s (eqb (length levels) (nearLen (due s))))
     (pick (finished (s .verdict)) none
     (require (not (full (s .geometry) (s .near))) frameWaits
     (require (ltb index limit) tooLarge
-    (require (either (dropped (s .geometry) (s .near) index) (finite x)) notFinite
+    (require (either (dropped (s .geometry) (heldAt (s .near) index) index) (finite x)) notFinite
     none))))
 
--- nothing changes
+-- the sample is not taken
 abbrev pub untaken : Scan → List Float → Taking → NearPush
 untaken s levels a = record { took = record { scan = s; answer = a }; levels = levels }
 
@@ -153,14 +152,16 @@ takenBy s t =
       levels = t .levels;
     }
 
+-- A hole drops the frame under way, whether the sample begins another or not; a refused sample changes nothing.
 unfoldable pub pushedNear : Scan → List Float → Float → ℕ → NearPush
 pushedNear s levels x index =
     let n = nearRefusal s levels x index in
     ifRefused n
     (untaken s levels (taking.Refused n))
     (pick (finished (s .verdict)) (untaken s levels taking.Ignored)
-    (pick (dropped (s .geometry) (s .near) index) (untaken s levels taking.Dropped)
-    (takenBy s (gather (s .geometry) (record { near = s .near; levels = levels }) x index))))
+    (let m = heldAt (s .near) index in
+    pick (dropped (s .geometry) m index) (untaken (withNear s m) levels taking.Dropped)
+    (takenBy s (gather (s .geometry) (record { near = m; levels = levels }) x index))))
 
 -- ---- a full frame is scored. Lent: all seven buffers.
 
@@ -204,19 +205,20 @@ scoreRefusal slack w =
 
 -- the near frame is consumed in every case
 abbrev pub consumed : Near → Near
-consumed n = record { len = 0; sum = n .sum; count = n .count; first = n .first }
+consumed n = record { len = 0; sum = n .sum; count = n .count; first = n .first; last = n .last }
 
-abbrev pub observation : Scan → Verdict → Frame → Buffers → Observation
-observation s v a b = record { scored = record { scan = withNearVerdict s (consumed (s .near)) v; answer = scoring.Frame a }; buffers = b }
+-- with this answer, reporting n products
+abbrev pub observation : Scan → Verdict → Frame → ℕ → Buffers → Observation
+observation s v a n b = record { scored = record { scan = withNearVerdict s (consumed (s .near)) v; answer = scoring.Frame a n }; buffers = b }
 
--- after 1 and 2 no buffer is written
+-- after 1 and 2 no buffer is written; steps 1 to 4 form no product
 abbrev pub unread : World → Frame → Observation
-unread w a = observation (w .scan) (w .scan .verdict) a (w .buffers)
+unread w a = observation (w .scan) (w .scan .verdict) a 0 (w .buffers)
 
 -- after 3 and 4 only the window
 abbrev pub uncounted : World → List Float → Frame → Observation
 uncounted w window a =
-    observation (w .scan) (w .scan .verdict) a
+    observation (w .scan) (w .scan .verdict) a 0
     (record {
       envelope = w .buffers .envelope;
       levels = w .buffers .levels;
@@ -228,9 +230,9 @@ uncounted w window a =
     })
 
 -- after the rest window, prefixes, scores and sums hold the values of steps 5 to 7
-abbrev pub countedBy : World → List Float → List Float → Ruling → Observation
-countedBy w window scores r =
-    observation (w .scan) (r .verdict) (r .answer)
+abbrev pub countedBy : World → List Float → List Float → Ruling → ℕ → Observation
+countedBy w window scores r n =
+    observation (w .scan) (r .verdict) (r .answer) n
     (record {
       envelope = w .buffers .envelope;
       levels = w .buffers .levels;
@@ -242,18 +244,18 @@ countedBy w window scores r =
     })
 
 -- steps 5 to 8
-unfoldable pub counted : World → List Float → List Float → Observation
-counted w levels window =
+unfoldable pub countedFrame : World → List Float → List Float → Observation
+countedFrame w levels window =
     let g = w .scan .geometry in
     let scores = scoresOf g levels window in
-    countedBy w window scores (ruling g (w .scan .verdict) (peakOf scores) (addScores g (w .buffers .lagSums) scores))
+    countedBy w window scores (ruling g (w .scan .verdict) (peakOf scores) (addScores g (w .buffers .lagSums) scores)) (products g levels window)
 
 -- steps 3 to 8, from the near levels and the window
 unfoldable pub judged : World → List Float → List Float → Observation
 judged w levels window =
     pick (quiet window) (uncounted w window frame.Quiet)
     (pick (flat levels) (uncounted w window frame.Flat)
-    (counted w levels window))
+    (countedFrame w levels window))
 
 -- steps 1 to 8
 unfoldable pub scoredFrame : ℕ → World → Observation
@@ -295,7 +297,7 @@ unbanked v = record { banked = 0; frames = v .frames; last = v .last; found = v 
 
 unfoldable pub discarded : Scan → List Float → Clearing
 discarded s lagSums =
-    clearing s lagSums (withNearVerdict s (record { len = 0; sum = zero64; count = 0; first = s .near .first }) (unbanked (s .verdict)))
+    clearing s lagSums (withNearVerdict s (emptied (s .near)) (unbanked (s .verdict)))
 
 -- ---- reports. No buffer is lent: each refuses 1 and 3.
 
@@ -313,21 +315,18 @@ ceilingSamples s = ifRefused (reportRefusal s) (samples.Refused (reportRefusal s
 unfoldable pub regionOf : Scan → RegionReport
 regionOf s = ifRefused (reportRefusal s) (region.Refused (reportRefusal s)) (region.Is (s .verdict .found))
 
-abbrev pub flagReport : Scan → Bool → FlagReport
-flagReport s b = ifRefused (reportRefusal s) (flag.Refused (reportRefusal s)) (flag.Is b)
+unfoldable pub beyondCeiling : Scan → Flag
+beyondCeiling s = flagged (reportRefusal s) (s .verdict .beyond)
 
-unfoldable pub beyondCeiling : Scan → FlagReport
-beyondCeiling s = flagReport s (s .verdict .beyond)
+unfoldable pub isFinished : Scan → Flag
+isFinished s = flagged (reportRefusal s) (finished (s .verdict))
 
-unfoldable pub isFinished : Scan → FlagReport
-isFinished s = flagReport s (finished (s .verdict))
-
-unfoldable pub isExhausted : Scan → FlagReport
-isExhausted s = flagReport s (s .verdict .exhausted)
+unfoldable pub isExhausted : Scan → Flag
+isExhausted s = flagged (reportRefusal s) (s .verdict .exhausted)
 
 -- the frames counted
-unfoldable pub framesOf : Scan → CountReport
-framesOf s = ifRefused (reportRefusal s) (count.Refused (reportRefusal s)) (count.Is (s .verdict .frames))
+unfoldable pub framesOf : Scan → Count
+framesOf s = counted (reportRefusal s) (s .verdict .frames)
 
 -- the region's averaged value as f32, and before there is one the last frame's peak
 abbrev pub correlationIn : Found → Float → Float

@@ -1,10 +1,10 @@
--- Document 01, "Scoring a full frame": steps 1 to 8, in its order.
+-- SPECIFICATION 7: steps 1 to 8, in its order.
 use Prim.Native.Nat.{ℕ, zero, suc, _+_, _-_, _*_, _/_, _%_}
-use mathlib.Core.List.{List, [], _∷_}
+use mathlib.Core.List.{List}
 use mathlib.Core.Bool.{Bool, true, false, not}
 use lib.Dec.{leb, ltb}
 use lib.ListN.{length}
-use lib.Ieee.{Float, binary32, binary64, ofBits, toBits, add, sub, mul, div, lt, le}
+use lib.Ieee.{Float, binary64, ofBits, add, sub, mul, div, lt, le}
 use Rattle.answers.specs.Pick.{pick, both, either}
 use Rattle.answers.specs.Numbers.{apart, nextCount}
 use Rattle.units.specs.Units.{bins, inSamples}
@@ -115,6 +115,27 @@ scoreAt levels window k =
 unfoldable pub scoresOf : Geometry → List Float → List Float → List Float
 scoresOf g levels window = table (scoreAt levels window) (lags g)
 
+-- ---- request h: the work of a frame that counts
+
+-- lag k's sum is formed: its segment energy is above 1e-12
+unfoldable pub live : List Float → ℕ → ℕ → Bool
+live window frame k = not (le (segmentEnergy window frame k) energyFloor)
+
+-- how many of the first n lags are
+unfoldable pub liveLags : List Float → ℕ → ℕ → ℕ
+liveLags window frame zero = 0
+liveLags window frame (suc n) = liveLags window frame n + pick (live window frame n) 1 0
+
+-- the products formed in the lag sums: as many as the frame has bins, for each such lag
+unfoldable pub products : Geometry → List Float → List Float → ℕ
+products g levels window = g .frame * liveLags window (length levels) (lags g)
+
+-- no frame takes more
+abbrev pub mostProducts : Geometry → ℕ
+mostProducts g = (g .span + 1) * g .frame
+
+-- ---- the peak and the sums
+
 -- the frame's peak is the largest score above 0, else 0
 abbrev pub peakOf : List Float → Float
 peakOf scores = searchDown scores .value
@@ -157,9 +178,9 @@ unfoldable pub decision : Geometry → List Float → Frame
 decision g averages =
     let peak = searchDown averages in
     pick (lt (peak .value) confidentCorrelation) frame.Weak
-    (pick (atCeiling g (delayAt g (peak .at))) frame.Ceiling
-    (pick (crowdedBy (rivalOf g averages (peak .at)) (peak .value)) frame.Crowded
-    (frame.Region (record { delay = inSamples (g .decimation) (delayAt g (peak .at)); correlation = peak .value }))))
+    (pick (atCeiling g (delayAt g (peak .place))) frame.Ceiling
+    (pick (crowdedBy (rivalOf g averages (peak .place)) (peak .value)) frame.Crowded
+    (frame.Region (record { delay = inSamples (g .decimation) (delayAt g (peak .place)); correlation = peak .value }))))
 
 -- a region is found
 abbrev pub foundBy : Frame → Found → Found
@@ -216,27 +237,3 @@ ruling g v peak lagSums =
     pick (ltb (v .banked + 1) coarseMinFrames)
     (record { answer = frame.Banked (narrow peak); verdict = verdictBy v peak (frame.Banked (narrow peak)) (v .banked + 1); lagSums = lagSums })
     (record { answer = fourth; verdict = verdictBy v peak fourth 0; lagSums = zeros (lags g) })
-
--- ---- the paper's number of each answer, in its order, and its values, floats by their bits
-
-abbrev pub frameNumber : Frame → ℕ
-frameNumber frame.Uncovered = 1
-frameNumber frame.Ahead = 2
-frameNumber frame.Quiet = 3
-frameNumber frame.Flat = 4
-frameNumber (frame.Banked p) = 5
-frameNumber frame.Weak = 6
-frameNumber frame.Ceiling = 7
-frameNumber frame.Crowded = 8
-frameNumber (frame.Region r) = 9
-
-abbrev pub frameValues : Frame → List ℕ
-frameValues frame.Uncovered = []
-frameValues frame.Ahead = []
-frameValues frame.Quiet = []
-frameValues frame.Flat = []
-frameValues (frame.Banked p) = toBits binary32 p ∷ []
-frameValues frame.Weak = []
-frameValues frame.Ceiling = []
-frameValues frame.Crowded = []
-frameValues (frame.Region r) = r .delay .0 ∷ toBits binary64 (r .correlation) ∷ []

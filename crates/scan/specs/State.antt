@@ -1,4 +1,4 @@
--- Document 01, "Refusal numbers": a scan with the buffers lent to it, a new one, the state rules, and refusals 1, 2 and 3.
+-- SPECIFICATION 3 and 4: a scan with the buffers lent to it, a new one, the state rules, and refusals 1, 2 and 3.
 use Prim.Native.Nat.{ℕ, _+_, _*_, _/_, _%_}
 use mathlib.Core.List.{List}
 use mathlib.Core.Bool.{Bool, true, false, not}
@@ -38,7 +38,11 @@ abbrev pub newFar : Far
 newFar = record { next = 0; sum = zero64; count = 0; accepted = 0 }
 
 abbrev pub newNear : Near
-newNear = record { len = 0; sum = zero64; count = 0; first = 0 }
+newNear = record { len = 0; sum = zero64; count = 0; first = 0; last = 0 }
+
+-- no frame is under way any more, nor a block of one; the first bin and the last index stay, and nobody reads them
+abbrev pub emptied : Near → Near
+emptied n = record { len = 0; sum = zero64; count = 0; first = n .first; last = n .last }
 
 abbrev pub newVerdict : Verdict
 newVerdict = record { banked = 0; frames = 0; last = zero64; found = Nothing; beyond = false; exhausted = false }
@@ -64,6 +68,10 @@ full g n = eqb (n .len) (g .frame)
 abbrev pub idle : Near → Bool
 idle n = both (eqb (n .count) 0) (eqb (n .len) 0)
 
+-- the samples of the frame under way
+abbrev pub taken : Geometry → Near → ℕ
+taken g n = n .len * g .decimation + n .count
+
 -- what rate and ceiling give
 abbrev pub due : Scan → Geometry
 due s = geometryOf (s .geometry .rate) (s .geometry .ceiling)
@@ -82,14 +90,16 @@ farRule g f =
     (both (finite (f .sum))
     (leb (f .accepted) limit)))
 
--- near partial count is below the decimation, and 0 in a full frame; near length at most frame; its running sum is finite; a frame's first bin times the decimation is below 2^62
+-- near partial count is below the decimation, and 0 in a full frame; near length at most frame; its running sum is finite; a frame's first bin times the decimation is below 2^62;
+-- while a frame or a block of one is under way, the last index is first bin x decimation plus samples taken less one
 unfoldable pub nearRule : Geometry → Near → Bool
 nearRule g n =
     both (ltb (n .count) (g .decimation))
     (both (either (not (full g n)) (eqb (n .count) 0))
     (both (leb (n .len) (g .frame))
     (both (finite (n .sum))
-    (ltb (n .first * g .decimation) limit))))
+    (both (ltb (n .first * g .decimation) limit)
+    (either (idle n) (eqb (n .last + 1) (n .first * g .decimation + taken g n)))))))
 
 -- frames banked below 4; a finished scan has near length and partial count 0
 unfoldable pub verdictRule : Near → Verdict → Bool

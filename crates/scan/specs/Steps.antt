@@ -3,21 +3,21 @@ use Prim.Native.Nat.{ℕ}
 use mathlib.Core.List.{List}
 use lib.Ieee.{Float}
 use Rattle.answers.specs.Refusals.{none}
+use Rattle.answers.specs.declared.Change.{Change}
+use Rattle.answers.specs.declared.Change.the-variants as change
+use Rattle.answers.specs.declared.Count.{Count}
+use Rattle.answers.specs.declared.Count.the-variants as count
+use Rattle.answers.specs.declared.Flag.{Flag}
+use Rattle.answers.specs.declared.Flag.the-variants as flag
 use Rattle.scan.specs.State.{Buffers, World}
 use Rattle.scan.specs.Calls.{made, wasReset, pushedFar, pushedNear, observed, rearmed, discarded, binSamples, ceilingSamples, regionOf, beyondCeiling, isFinished, isExhausted, framesOf, correlationOf}
 use Rattle.scan.specs.declared.Scan.{Scan}
-use Rattle.scan.specs.declared.Change.{Change}
-use Rattle.scan.specs.declared.Change.the-variants as change
 use Rattle.scan.specs.declared.Taking.{Taking}
 use Rattle.scan.specs.declared.Taking.the-variants as taking
 use Rattle.scan.specs.declared.Scoring.{Scoring}
 use Rattle.scan.specs.declared.Scoring.the-variants as scoring
 use Rattle.scan.specs.declared.RegionReport.{RegionReport}
 use Rattle.scan.specs.declared.RegionReport.the-variants as regionReport
-use Rattle.scan.specs.declared.FlagReport.{FlagReport}
-use Rattle.scan.specs.declared.FlagReport.the-variants as flag
-use Rattle.scan.specs.declared.CountReport.{CountReport}
-use Rattle.scan.specs.declared.CountReport.the-variants as count
 use Rattle.scan.specs.declared.LevelReport.{LevelReport}
 use Rattle.scan.specs.declared.LevelReport.the-variants as level
 use Rattle.scan.specs.declared.SamplesReport.{SamplesReport}
@@ -44,8 +44,8 @@ pub data Response : Type 0 where
   takes : Taking → Response
   scores : Scoring → Response
   reportsRegion : RegionReport → Response
-  reportsFlag : FlagReport → Response
-  reportsCount : CountReport → Response
+  reportsFlag : Flag → Response
+  reportsCount : Count → Response
   reportsLevel : LevelReport → Response
   reportsSamples : SamplesReport → Response
 
@@ -59,7 +59,7 @@ refusalOf (takes taking.Dropped) = none
 refusalOf (takes taking.Taken) = none
 refusalOf (takes taking.Full) = none
 refusalOf (scores (scoring.Refused n)) = n
-refusalOf (scores (scoring.Frame f)) = none
+refusalOf (scores (scoring.Frame f n)) = none
 refusalOf (reportsRegion (regionReport.Refused n)) = n
 refusalOf (reportsRegion (regionReport.Is r)) = none
 refusalOf (reportsFlag (flag.Refused n)) = n

@@ -1,7 +1,7 @@
 -- Demand 3: a rearmed coarse scan forgets damage. The vocabulary of the statement, and the statement.
 --
 -- Pick any block number B. Suppose there has been no reset since the stream began, each call that is not refused gets the state and buffers as the
--- calls before left them, the rearm itself was not refused, and every near sample that begins a frame after the rearm carries an index of at least
+-- calls before left them, the rearm itself was not refused, and every near sample that begins a frame after the rearm, be it after a hole, carries an index of at least
 -- (B + span) x decimation. Then each answer and report since the rearm is what the rules give from these alone: the settings, far samples numbered
 -- B x decimation and up, how many far samples had been accepted at each moment, and the calls since the rearm. Earlier finite samples of any kind change nothing.
 use Prim.Native.Nat.{ℕ, _+_, _-_, _*_, _≤_, min}
@@ -11,12 +11,12 @@ use mathlib.Core.Bool.{Bool, true, false, not}
 use lib.Dec.{T, eqb}
 use lib.ListN.{length, take, drop}
 use lib.Ieee.{Float, nan, binary32, fits}
-use Rattle.answers.specs.Pick.{pick, both}
+use Rattle.answers.specs.Pick.{pick, both, either}
 use Rattle.answers.specs.Refusals.{none}
 use Rattle.folds.specs.Sums.{zeros, table, allFinite}
 use Rattle.scan.specs.Bins.{geometryOf, decimationOf, envelopeLen, lags}
 use Rattle.scan.specs.State.{Buffers, World, finished, idle}
-use Rattle.scan.specs.Blocks.{onGrid}
+use Rattle.scan.specs.Blocks.{onGrid, hole}
 use Rattle.scan.specs.Steps.{Deed, near, score, rearm, discard, reset, ask, Call, far, deed, Response, refusalOf, called, making}
 use Rattle.scan.specs.declared.Geometry.{Geometry}
 use Rattle.scan.specs.declared.Scan.{Scan}
@@ -82,9 +82,9 @@ Fair slack w [] = Unit {0}
 Fair slack w (own c ∷ items) = FairCall slack w c × Fair slack (called slack w c .world) items
 Fair slack w (foreign v c ∷ items) = refused slack v c × Fair slack w items
 
--- the sample begins a frame
+-- the sample begins a frame: no frame is under way, or one that it drops by a hole
 abbrev pub begins : Scan → ℕ → Bool
-begins s index = both (not (finished (s .verdict))) (both (idle (s .near)) (onGrid (s .geometry) index))
+begins s index = both (not (finished (s .verdict))) (both (either (idle (s .near)) (hole (s .near) index)) (onGrid (s .geometry) index))
 
 -- every near sample that begins a frame carries an index of at least (block + span) x decimation
 abbrev pub LateDeed : ℕ → ℕ → World → Deed → Type 0

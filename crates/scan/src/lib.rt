@@ -1,5 +1,6 @@
 // The coarse scan: its state and answers. The calls stand in the crates above; what each of them does is defined in specs/.
 // One far history, one near frame, one verdict: each is a struct of its own.
+use answers::Change;
 use units::Samples;
 
 // The Rust's constants, by its names. specs/Bins.antt and specs/Scoring.antt say what each is for.
@@ -39,12 +40,13 @@ pub struct Far {
     pub accepted: u64,
 }
 
-// The near frame under way: the bins it has, the running sum and partial count of the next one, and the frame's first bin.
+// The near frame under way: the bins it has, the running sum and partial count of the next one, the frame's first bin, and the index of the last sample taken.
 pub struct Near {
     pub len: u64,
     pub sum: f64,
     pub count: u64,
     pub first: u64,
+    pub last: u64,
 }
 
 // Where the echo lives: a delay in native samples, and its averaged correlation.
@@ -76,7 +78,7 @@ pub struct Scan {
     pub verdict: Verdict,
 }
 
-// ---- answers. A refusal carries its number of document 01.
+// ---- answers, beside those of crate answers. specs/Told.antt numbers their cases.
 
 // A frame's answer: one case of nine.
 pub enum Frame {
@@ -91,13 +93,7 @@ pub enum Frame {
     Region(Region),
 }
 
-// Of a making, a far push, a rearm, a discard and a reset.
-pub enum Change {
-    Refused(u8),
-    Done,
-}
-
-// Of a near sample: ignored by a finished scan, dropped before a frame's first multiple of the decimation, taken, or taken as the frame's last.
+// Of a near sample: ignored by a finished scan, dropped where no frame goes on with it and it begins none, taken, or taken as the frame's last.
 pub enum Taking {
     Refused(u8),
     Ignored,
@@ -106,26 +102,16 @@ pub enum Taking {
     Full,
 }
 
-// Of a frame to be scored.
+// Of a frame to be scored: its case, and how many products its lag sums took.
 pub enum Scoring {
     Refused(u8),
-    Frame(Frame),
+    Frame(Frame, u64),
 }
 
-// Of a report.
+// Of a report that is neither a count nor a flag.
 pub enum RegionReport {
     Refused(u8),
     Is(Found),
-}
-
-pub enum FlagReport {
-    Refused(u8),
-    Is(bool),
-}
-
-pub enum CountReport {
-    Refused(u8),
-    Is(u32),
 }
 
 pub enum LevelReport {

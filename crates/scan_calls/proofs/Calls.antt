@@ -12,7 +12,7 @@ use Rattle.folds.specs.Sums.{zeros}
 use Rattle.scan.specs.Bins.{inTable, geometryOf, envelopeLen, lags}
 use Rattle.scan.specs.State.{newFar, newNear, newVerdict, newScan}
 use Rattle.scan.specs.Calls.{changedBy, restart, restartLengths, makingRefusal, made, resetRefusal, wasReset}
-use Rattle.scan.specs.declared.Change.the-variants as change
+use Rattle.answers.specs.declared.Change.the-variants as change
 use Rattle.scan.specs.declared.Geometry.{Geometry}
 use Rattle.scan.specs.declared.Scan.{Scan}
 use Rattle.scan_calls.proofs.Chains.{turned-down, accepted, first, second}

@@ -4,7 +4,8 @@ use contract.Lifetimes.{Lfts}
 use denote.Ref.{now}
 use denote.Triple.Clauses.{AtExit}
 use borrow.Fn.Kinds.{Dens, resT, endedOf}
-use Rattle.answers.proofs.Once.{Determined, once}
+use Rattle.answers.specs.Once.{Determined}
+use Rattle.answers.proofs.Once.{once}
 use Rattle.scan_calls.proofs.new.Kinds as new-kinds
 use Rattle.scan_calls.proofs.new.Reads as new-reads
 use Rattle.scan_calls.proofs.reset.Kinds as reset-kinds

@@ -7,7 +7,6 @@ pub mod clearing; // rearm and discard_near
 pub mod reports; // what a scan reports
 
 use scan::Changed;
-use scan::Near;
 use scan::Scan;
 ghost use mathlib.Core.Path.{_≡_};
 ghost use Rattle.scan.specs.Bins.{fullSlack};
@@ -42,18 +41,13 @@ pub fn rearm(scan: Scan, lag_sums: &mut [f64]) -> Changed
     clearing::clear(scan, lag_sums, parts::searching_anew(scan))
 }
 
-// The near frame but for its first bin, and the frames banked; the frames counted, the last peak, the region and the flags stay.
+// The near frame but for its first bin and the last index, and the frames banked; the frames counted, the last peak, the region and the flags stay.
 pub fn discard_near(scan: Scan, lag_sums: &mut [f64]) -> Changed
     ensures changed { λ r. ⌜ r ≡ discarded scan (now («lag_sums» .entry)) .changed ⌝ }
     ensures sums { λ r. ⌜ now («lag_sums» .exit) ≡ discarded scan (now («lag_sums» .entry)) .lagSums ⌝ }
 {
-    let near = Near {
-        len: 0,
-        sum: 0.0,
-        count: 0,
-        first: scan.near.first,
-    };
+    let near = scan.near;
     let verdict = scan.verdict;
-    let cleared = parts::with_near_verdict(scan, near, parts::unbank(verdict));
+    let cleared = parts::with_near_verdict(scan, parts::empty(near), parts::unbank(verdict));
     clearing::clear(scan, lag_sums, cleared)
 }

@@ -1,5 +1,5 @@
 // The parts of a state: as new, and a state with one part anew.
-use scan::Change;
+use answers::Change;
 use scan::Changed;
 use scan::Far;
 use scan::Found;
@@ -8,9 +8,9 @@ use scan::Near;
 use scan::Scan;
 use scan::Verdict;
 ghost use mathlib.Core.Path.{_≡_};
-ghost use Rattle.scan.specs.State.{newFar, newNear, newVerdict, newScan};
+ghost use Rattle.scan.specs.State.{newFar, newNear, newVerdict, newScan, emptied};
 ghost use Rattle.scan.specs.Calls.{withFar, withNear, withNearVerdict, unbanked, changedBy};
-ghost use Rattle.scan.specs.declared.Change.the-variants as Change;
+ghost use Rattle.answers.specs.declared.Change.the-variants as Change;
 
 pub fn new_far() -> Far
     ensures { λ r. ⌜ r ≡ newFar ⌝ }
@@ -31,6 +31,20 @@ pub fn new_near() -> Near
         sum: 0.0,
         count: 0,
         first: 0,
+        last: 0,
+    }
+}
+
+// No frame is under way, nor a block of one: its first bin and the last index stay.
+pub fn empty(n: Near) -> Near
+    ensures { λ r. ⌜ r ≡ emptied n ⌝ }
+{
+    Near {
+        len: 0,
+        sum: 0.0,
+        count: 0,
+        first: n.first,
+        last: n.last,
     }
 }
 

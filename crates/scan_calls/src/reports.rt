@@ -1,6 +1,6 @@
 // What a scan reports. No buffer is lent: each report refuses 1 and 3, and changes nothing.
-use scan::CountReport;
-use scan::FlagReport;
+use answers::Count;
+use answers::Flag;
 use scan::Found;
 use scan::LevelReport;
 use scan::RegionReport;
@@ -8,7 +8,7 @@ use scan::SamplesReport;
 use scan::Scan;
 use units::Bins;
 ghost use mathlib.Core.Path.{_≡_};
-ghost use Rattle.scan.specs.Calls.{reportRefusal, binSamples, ceilingSamples, regionOf, flagReport, beyondCeiling, isFinished, isExhausted, framesOf, correlationIn, correlationOf};
+ghost use Rattle.scan.specs.Calls.{reportRefusal, binSamples, ceilingSamples, regionOf, beyondCeiling, isFinished, isExhausted, framesOf, correlationIn, correlationOf};
 
 fn refusal(scan: Scan) -> u8
     ensures { λ r. ⌜ r ≡ reportRefusal scan ⌝ }
@@ -53,14 +53,10 @@ pub fn region(scan: Scan) -> RegionReport
 }
 
 // The frames counted since the making, the last rearm or the last reset.
-pub fn frames(scan: Scan) -> CountReport
+pub fn frames(scan: Scan) -> Count
     ensures { λ r. ⌜ r ≡ framesOf scan ⌝ }
 {
-    let n = refusal(scan);
-    if n != 0 {
-        return CountReport::Refused(n);
-    }
-    CountReport::Is(scan.verdict.frames)
+    Count::of(refusal(scan), scan.verdict.frames as u64)
 }
 
 // The region's averaged value as f32, and before there is one the last frame's peak.
@@ -85,34 +81,24 @@ pub fn correlation(scan: Scan) -> LevelReport
     LevelReport::Is(correlation_in(found, verdict.last))
 }
 
-fn flag_report(scan: Scan, flag: bool) -> FlagReport
-    ensures { λ r. ⌜ r ≡ flagReport scan flag ⌝ }
-{
-    let n = refusal(scan);
-    if n != 0 {
-        return FlagReport::Refused(n);
-    }
-    FlagReport::Is(flag)
-}
-
 // Whether a peak stood at the ceiling.
-pub fn beyond_ceiling(scan: Scan) -> FlagReport
+pub fn beyond_ceiling(scan: Scan) -> Flag
     ensures { λ r. ⌜ r ≡ beyondCeiling scan ⌝ }
 {
-    flag_report(scan, scan.verdict.beyond)
+    Flag::of(refusal(scan), scan.verdict.beyond)
 }
 
 // Whether the scan has stopped working: it found a region, or gave up.
-pub fn finished(scan: Scan) -> FlagReport
+pub fn finished(scan: Scan) -> Flag
     ensures { λ r. ⌜ r ≡ isFinished scan ⌝ }
 {
     let verdict = scan.verdict;
-    flag_report(scan, crate::rules::finished(verdict))
+    Flag::of(refusal(scan), crate::rules::finished(verdict))
 }
 
 // Whether the scan gave up.
-pub fn exhausted(scan: Scan) -> FlagReport
+pub fn exhausted(scan: Scan) -> Flag
     ensures { λ r. ⌜ r ≡ isExhausted scan ⌝ }
 {
-    flag_report(scan, scan.verdict.exhausted)
+    Flag::of(refusal(scan), scan.verdict.exhausted)
 }

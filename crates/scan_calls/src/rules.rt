@@ -7,13 +7,14 @@ use scan::Scan;
 use scan::Verdict;
 ghost use mathlib.Core.Path.{_≡_};
 ghost use mathlib.Core.Bool.{true, not};
-ghost use Prim.Native.Nat.{_+_, _*_, _/_, _^_, _<_, max};
+ghost use Prim.Native.Nat.{_+_, _*_, _/_, _%_, _^_, _<_, _≤_, max};
 ghost use lib.Dec.{eqb, ltb};
-ghost use Rattle.answers.specs.Pick.{either};
+ghost use Rattle.answers.specs.Pick.{both, either};
 ghost use Rattle.answers.specs.Numbers.{limit};
 ghost use Rattle.scan.specs.Bins;
 ghost use Rattle.scan.specs.Bins.{inTable, geometryOf, sameGeometry, envelopeLen};
 ghost use Rattle.scan.specs.State;
+ghost use Rattle.scan_calls.specs.Bounds.{Bounds, Places};
 ghost use Rattle.scan.specs.State.{farRule, nearRule, verdictRule, keepsRules, firstRefusals};
 
 // ---- 1: the table, and what follows from rate and ceiling
@@ -99,14 +100,31 @@ fn same_geometry(g: Geometry, h: Geometry) -> bool
     g.peak_guard == h.peak_guard
 }
 
-fn far_rule(g: Geometry, f: Far) -> bool
-    requires { ⌜ 0 < g .decimation ⌝ }
-    ensures { λ r. ⌜ r ≡ farRule g f ⌝ }
+// Below it a bin times any decimation is below 2^62.
+const SURELY_BELOW: u64 = 0x40_0000_0000_0000;
+
+// Tells whether n / d is `quotient` and n % d is `remainder`: by a product where it surely fits, since a division takes longer than all the other rules.
+fn parts_are(n: u64, d: u64, quotient: u64, remainder: u64) -> bool
+    requires { ⌜ (0 < d) × (d ≤ 192) ⌝ }
+    ensures { λ r. ⌜ r ≡ both (eqb quotient (n / d)) (eqb remainder (n % d)) ⌝ }
 {
-    if f.next != f.accepted / g.decimation {
+    if d <= remainder {
         return false;
     }
-    if f.count != f.accepted % g.decimation {
+    if quotient < SURELY_BELOW {
+        return quotient * d + remainder == n;
+    }
+    if quotient != n / d {
+        return false;
+    }
+    remainder == n % d
+}
+
+fn far_rule(g: Geometry, f: Far) -> bool
+    requires { ⌜ Bounds g ⌝ }
+    ensures { λ r. ⌜ r ≡ farRule g f ⌝ }
+{
+    if !parts_are(f.accepted, g.decimation, f.next, f.count) {
         return false;
     }
     if !floats::is_finite(f.sum) {
@@ -125,16 +143,31 @@ fn whole_if_full(g: Geometry, n: Near) -> bool
     n.count == 0
 }
 
-// bin x decimation < 2^62, by a division, since the product may not fit.
+// bin x decimation < 2^62. The product may not fit, and then a division tells.
 fn starts_below_limit(bin: u64, decimation: u64) -> bool
-    requires { ⌜ 0 < decimation ⌝ }
+    requires { ⌜ (0 < decimation) × (decimation ≤ 192) ⌝ }
     ensures { λ r. ⌜ r ≡ ltb (bin * decimation) limit ⌝ }
 {
+    if bin < SURELY_BELOW {
+        return true;
+    }
     bin <= (answers::LIMIT - 1) / decimation
 }
 
+// The samples of the frame under way stand where the last index says; first x decimation is below 2^62.
+fn in_place(g: Geometry, n: Near) -> bool
+    requires { ⌜ Places g n ⌝ }
+    ensures { λ r. ⌜ r ≡ either (State.idle n) (eqb (n .last + 1) (n .first * g .decimation + State.taken g n)) ⌝ }
+{
+    if idle(n) {
+        return true;
+    }
+    let taken = n.len * g.decimation + n.count;
+    n.last == n.first * g.decimation + taken - 1
+}
+
 fn near_rule(g: Geometry, n: Near) -> bool
-    requires { ⌜ 0 < g .decimation ⌝ }
+    requires { ⌜ Bounds g ⌝ }
     ensures { λ r. ⌜ r ≡ nearRule g n ⌝ }
 {
     if n.count >= g.decimation {
@@ -149,7 +182,10 @@ fn near_rule(g: Geometry, n: Near) -> bool
     if !floats::is_finite(n.sum) {
         return false;
     }
-    starts_below_limit(n.first, g.decimation)
+    if !starts_below_limit(n.first, g.decimation) {
+        return false;
+    }
+    in_place(g, n)
 }
 
 pub fn present(found: Found) -> bool
@@ -196,7 +232,7 @@ fn verdict_rule(n: Near, v: Verdict) -> bool
 
 // `due` is what rate and ceiling give.
 fn keeps_rules(scan: Scan, due: Geometry) -> bool
-    requires { ⌜ due ≡ State.due scan ⌝ }
+    requires { ⌜ (due ≡ State.due scan) × (inTable (scan .geometry .rate) (scan .geometry .ceiling) ≡ true) ⌝ }
     ensures { λ r. ⌜ r ≡ keepsRules scan ⌝ }
 {
     let g = scan.geometry;

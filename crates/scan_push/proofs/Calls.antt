@@ -5,9 +5,9 @@ use mathlib.Core.List.{List}
 use mathlib.Core.Bool.{Bool, true, false}
 use lib.Ieee.{Float}
 use Rattle.scan.specs.State.{finished}
-use Rattle.scan.specs.Blocks.{hearAll, gather, dropped}
-use Rattle.scan.specs.Calls.{changedBy, FarPush, farRefusal, heardBy, pushedFar, nearRefusal, untaken, takenBy, pushedNear}
-use Rattle.scan.specs.declared.Change.the-variants as change
+use Rattle.scan.specs.Blocks.{hearAll, gather, dropped, heldAt}
+use Rattle.scan.specs.Calls.{changedBy, withNear, FarPush, farRefusal, heardBy, pushedFar, nearRefusal, untaken, takenBy, pushedNear}
+use Rattle.answers.specs.declared.Change.the-variants as change
 use Rattle.scan.specs.declared.Taking.the-variants as taking
 use Rattle.scan.specs.declared.Scan.{Scan}
 use Rattle.scan_calls.proofs.Chains.{yes, no, turned-down, accepted}
@@ -31,11 +31,11 @@ module _ (s : Scan) (levels : List Float) (x : Float) (index : ℕ) {n : ℕ} (i
     unfolding pushedNear
     is-ignored h = accepted is _ z (yes ends _ h refl)
 
-    module _ (unfinished : over ≡ false) {drops : Bool} (drop : drops ≡ dropped (s .geometry) (s .near) index) where
-      pub is-dropped : drops ≡ true → untaken s levels taking.Dropped ≡ pushedNear s levels x index
+    module _ (unfinished : over ≡ false) {drops : Bool} (drop : drops ≡ dropped (s .geometry) (heldAt (s .near) index) index) where
+      pub is-dropped : drops ≡ true → untaken (withNear s (heldAt (s .near) index)) levels taking.Dropped ≡ pushedNear s levels x index
       unfolding pushedNear
       is-dropped h = accepted is _ z (no ends _ unfinished (yes drop _ h refl))
 
-      pub is-taken : drops ≡ false → takenBy s (gather (s .geometry) (record { near = s .near; levels = levels }) x index) ≡ pushedNear s levels x index
+      pub is-taken : drops ≡ false → takenBy s (gather (s .geometry) (record { near = heldAt (s .near) index; levels = levels }) x index) ≡ pushedNear s levels x index
       unfolding pushedNear
       is-taken h = accepted is _ z (no ends _ unfinished (no drop _ h refl))

@@ -4,7 +4,8 @@ use contract.Lifetimes.{Lfts}
 use denote.Ref.{now}
 use denote.Triple.Clauses.{AtExit}
 use borrow.Fn.Kinds.{Dens, resT, endedOf}
-use Rattle.answers.proofs.Once.{Determined, once}
+use Rattle.answers.specs.Once.{Determined}
+use Rattle.answers.proofs.Once.{once}
 use Rattle.scan_push.proofs.push_far.Kinds as push-far-kinds
 use Rattle.scan_push.proofs.push_far.Reads as push-far-reads
 use Rattle.scan_push.proofs.push_near.Kinds as push-near-kinds

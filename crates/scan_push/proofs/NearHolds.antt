@@ -18,9 +18,9 @@ use Rattle.floats.specs.Functions.{zero64, magnitude}
 use Rattle.folds.specs.Sums.{upto, at}
 use Rattle.scan.specs.Bins.{geometryOf, nearLen}
 use Rattle.scan.specs.State.{World, finished, full, due, geometryRule, farRule, nearRule, keepsRules, firstRefusals}
-use Rattle.scan.specs.Blocks.{Seen, gather, dropped, summed, levelOf}
+use Rattle.scan.specs.Blocks.{Seen, gather, dropped, hole, heldAt, summed, levelOf}
 use Rattle.scan.specs.Scoring.{quiet, flat}
-use Rattle.scan.specs.Calls.{FarPush, NearPush, Observation, Clearing, Restart, isUncovered, isAhead, windowIn, frameOf, consumed, farRefusal, pushedFar, nearRefusal, pushedNear, scoreRefusal, allLengths, counted, judged, scoredFrame, observed, clearRefusal, rearmed, discarded, resetRefusal, wasReset}
+use Rattle.scan.specs.Calls.{FarPush, NearPush, Observation, Clearing, Restart, isUncovered, isAhead, windowIn, frameOf, consumed, farRefusal, pushedFar, nearRefusal, pushedNear, scoreRefusal, allLengths, countedFrame, judged, scoredFrame, observed, clearRefusal, rearmed, discarded, resetRefusal, wasReset}
 use Rattle.scan.specs.Steps.{Call, near, score, rearm, discard, reset, ask, far, deed, refusalOf, changes, scores, called}
 use Rattle.scan.specs.Streams.{Item, own, foreign, after}
 use Rattle.scan.specs.Along.{along}
@@ -28,12 +28,12 @@ use Rattle.scan.specs.declared.Geometry.{Geometry}
 use Rattle.scan.specs.declared.Near.{Near}
 use Rattle.scan.specs.declared.Scan.{Scan}
 use Rattle.scan.specs.declared.Taking.the-variants as taking
-use Rattle.scan.proofs.Laws.{if-refused-case, both-left, both-right}
+use Rattle.scan.proofs.Laws.{pick-both, if-refused-case, both-left, both-right}
 use Rattle.scan.proofs.Accepted.{first-passed, follows-by, near-taken, scoreable}
 use Rattle.scan.proofs.Contracts.{farStep, nearStep, scoreStep, clearStep, resetStep}
 use Rattle.scan.proofs.Fresh.{began}
 use Rattle.scan_push.specs.Envelope.{levelOfBlock}
-use Rattle.scan_push.specs.NearFrame.{isTaken, frameOn, HoldsFrame, HoldsNearLevels}
+use Rattle.scan_push.specs.NearFrame.{frameBy, frameOn, HoldsFrame, HoldsNearLevels}
 use Rattle.scan_push.proofs.Holds.{one-more, earlier-block, length-more}
 
 -- ---- the rules of a state that is not refused
@@ -89,10 +89,10 @@ module _ (g : Geometry) (n : Near) (levels xs : List Float) (k : HoldsFrame g n 
 abbrev Held : List Float → World → Type 0
 Held ys v = HoldsFrame (v .scan .geometry) (v .scan .near) (v .buffers .levels) ys
 
-taken-so : (filled : Bool) → isTaken (pick filled taking.Full taking.Taken) ≡ true
+taken-so : (filled : Bool) (xs held : List Float) (x : Float) → frameBy (pick filled taking.Full taking.Taken) xs held x ≡ held ++ (x ∷ [])
 unfolding pick
-taken-so true = refl
-taken-so false = refl
+taken-so true xs held x = refl
+taken-so false xs held x = refl
 
 -- no sample is taken
 none-held : (g : Geometry) (n : Near) (levels : List Float) → n .len ≡ 0 → n .count ≡ 0 → n .sum ≡ zero64 → HoldsFrame g n levels []
@@ -111,26 +111,36 @@ module _ (slack : ℕ) (w : World) (xs : List Float) (k : Held xs w) where
   abbrev Cleared : Clearing → Type 0
   Cleared p = Held (pick (eqb (refusalOf (changes (p .changed .answer))) none) [] xs) (clearStep (w .buffers) p .world)
 
-  near-room : (x : Float) (index : ℕ) → nearRefusal s (w .buffers .levels) x index ≡ 0 → finished (s .verdict) ≡ false → dropped (s .geometry) (s .near) index ≡ false → s .near .len < length (w .buffers .levels)
+  near-room : (x : Float) (index : ℕ) → nearRefusal s (w .buffers .levels) x index ≡ 0 → finished (s .verdict) ≡ false → dropped (s .geometry) (heldAt (s .near) index) index ≡ false
+      → heldAt (s .near) index .len < length (w .buffers .levels)
   unfolding nearRefusal
   near-room x index z t d =
       let e = near-taken w x index z t d in
       let lengths = eqb (length (w .buffers .levels)) (nearLen (due s)) in
       let f = passed-both (firstRefusals s lengths) _ z .0 in
       let frame : s .geometry .frame ≡ length (w .buffers .levels) = ap nearLen (follows-by s (first-passed s lengths f .rules)) ∙ sym (e .length) in
-      omega (arith, within (s .geometry) (s .near) (rules-near s lengths f), eqb-false (s .near .len) (s .geometry .frame) (e .room), frame)
+      let room : s .near .len < length (w .buffers .levels) = omega (arith, within (s .geometry) (s .near) (rules-near s lengths f), eqb-false (s .near .len) (s .geometry .frame) (e .room), frame) in
+      pick-case (λ (m : Near). m .len < length (w .buffers .levels)) (hole (s .near) index) _ _ (λ h. omega (arith, room)) (λ h. room)
+
+  -- what a hole leaves
+  abbrev left : ℕ → List Float
+  left index = pick (hole (s .near) index) [] xs
+
+  left-held : (index : ℕ) → HoldsFrame (s .geometry) (heldAt (s .near) index) (w .buffers .levels) (left index)
+  left-held index = pick-both (λ (m : Near) (ys : List Float). HoldsFrame (s .geometry) m (w .buffers .levels) ys) (hole (s .near) index) _ _ _ _ (λ h. none-held _ _ _ refl refl refl) (λ h. k)
 
   near-held : (x : Float) (index : ℕ) → Held (frameOn slack xs w (deed (near x index))) (called slack w (deed (near x index)) .world)
   unfolding called pushedNear pick
   near-held x index =
       if-refused-case P (nearRefusal s (w .buffers .levels) x index) _ _ (λ r. k)
       (λ z. pick-case P (finished (s .verdict)) _ _ (λ t. k)
-      (λ t. pick-case P (dropped (s .geometry) (s .near) index) _ _ (λ d. k)
-      (λ d. let u = gather (s .geometry) (record { near = s .near; levels = w .buffers .levels }) x index in
-      rw (taken-so (full (s .geometry) (u .near))) (gathered (s .geometry) (s .near) (w .buffers .levels) xs k x index (near-room x index z t d)))))
+      (λ t. let m = heldAt (s .near) index in
+      pick-case P (dropped (s .geometry) m index) _ _ (λ d. left-held index)
+      (λ d. let u = gather (s .geometry) (record { near = m; levels = w .buffers .levels }) x index in
+      rw (taken-so (full (s .geometry) (u .near)) xs (left index) x) (gathered (s .geometry) m (w .buffers .levels) (left index) (left-held index) x index (near-room x index z t d)))))
     where
       P : NearPush → Type 0
-      P p = Held (pick (isTaken (p .took .answer)) (xs ++ (x ∷ [])) xs) (nearStep (w .buffers) p .world)
+      P p = Held (frameBy (p .took .answer) xs (left index) x) (nearStep (w .buffers) p .world)
 
   -- a scored frame was full, so that no block was under way
   emptied : (levels : List Float) → scoreRefusal slack w ≡ 0 → HoldsFrame (s .geometry) (consumed (s .near)) levels []
@@ -142,7 +152,7 @@ module _ (slack : ℕ) (w : World) (xs : List Float) (k : Held xs w) where
       none-held (s .geometry) (consumed (s .near)) levels refl c (k .sum ∙ ap (upto (λ i. magnitude (at xs (s .near .len * s .geometry .decimation + i)))) c)
 
   score-held : Held (frameOn slack xs w (deed score)) (called slack w (deed score) .world)
-  unfolding called observed scoredFrame judged counted pick
+  unfolding called observed scoredFrame judged countedFrame pick
   score-held =
       if-refused-case P (scoreRefusal slack w) _ _ (λ r. rw (ne-eqb (scoreRefusal slack w) none r) k)
       (λ z. pick-case P (isUncovered slack w) _ _ (λ t. emptied _ z)

@@ -1,5 +1,5 @@
 -- What a push that is not refused may count on, and its loop.
-use Prim.Native.Nat.{ℕ, _+_, _*_, _/_, _%_, _≤_, _<_}
+use Prim.Native.Nat.{ℕ, _+_, _-_, _*_, _/_, _%_, _≤_, _<_}
 use mathlib.Core.Path.{_≡_, refl, sym, ap, _∙_}
 use mathlib.Core.List.{List, _∷_}
 use mathlib.Core.Bool.{Bool, true, false, not}
@@ -16,8 +16,8 @@ use Rattle.answers.proofs.Refusals.{passed, passed-both}
 use Rattle.floats.specs.Functions.{zero64}
 use Rattle.folds.specs.Sums.{allFinite}
 use Rattle.scan.specs.Bins.{envelopeLen, nearLen}
-use Rattle.scan.specs.State.{farRule, nearRule, keepsRules, geometryRule, finished, full, due, firstRefusals}
-use Rattle.scan.specs.Blocks.{Heard, hear, hearAll, gather, dropped, firstBin, withSample, withBlock, levelOf, summed}
+use Rattle.scan.specs.State.{emptied, idle, farRule, nearRule, keepsRules, geometryRule, finished, full, due, firstRefusals}
+use Rattle.scan.specs.Blocks.{Heard, hear, hearAll, gather, dropped, hole, heldAt, firstBin, withSample, withBlock, levelOf, summed}
 use Rattle.scan.specs.Calls.{farRefusal, nearRefusal}
 use Rattle.scan.specs.declared.Geometry.{Geometry}
 use Rattle.scan.specs.declared.Far.{Far}
@@ -90,8 +90,12 @@ pub divisible : (s : Scan) (levels : List Float) (x : Float) (index : ℕ) → n
 unfolding nearRefusal
 divisible s levels x index z = pass s _ (passed-both (firstRefusals s (eqb (length levels) (nearLen (due s)))) _ z .0) .bounds .someDecimation
 
+-- a count of the near side, which a hole sets to 0
+pub held-below : (n : Near) (index : ℕ) (of : Near → ℕ) (most : ℕ) → of n < most → of (emptied n) ≡ 0 → of (heldAt n index) < most
+held-below n index of most below none = pick-case (λ (m : Near). of m < most) (hole n index) _ _ (λ h. omega (arith, below, none)) (λ h. below)
+
 pub gathers : (s : Scan) (levels : List Float) (x : Float) (index : ℕ) → nearRefusal s levels x index ≡ 0
-    → finished (s .verdict) ≡ false → dropped (s .geometry) (s .near) index ≡ false → Gathers (s .geometry) (s .near) levels x
+    → finished (s .verdict) ≡ false → dropped (s .geometry) (heldAt (s .near) index) index ≡ false → Gathers (s .geometry) (heldAt (s .near) index) levels x
 unfolding nearRefusal
 gathers s levels x index z unfinished kept =
     let a = passed-both (firstRefusals s (eqb (length levels) (nearLen (due s)))) _ z in
@@ -100,13 +104,40 @@ gathers s levels x index z unfinished kept =
     let d = passed _ 3 _ (c .1) .0 in
     let ok = pass s _ (a .0) in
     let rule = near-rule s (ok .rules) in
+    let g = s .geometry in
     record {
       bounds = ok .bounds;
       fit = fits s (length levels) nearLen (a .0);
-      partial = partial (s .geometry) (s .near) rule;
-      room = not-full (s .geometry) (s .near) rule (not-true (full (s .geometry) (s .near)) (b .0));
-      finite = sym (pick-false (dropped (s .geometry) (s .near) index) _ _ kept) ∙ d;
+      partial = held-below (s .near) index (λ (m : Near). m .count) (g .decimation) (partial g (s .near) rule) refl;
+      room = held-below (s .near) index (λ (m : Near). m .len) (g .frame) (not-full g (s .near) rule (not-true (full g (s .near)) (b .0))) refl;
+      finite = sym (pick-false (dropped g (heldAt (s .near) index) index) _ _ kept) ∙ d;
     }
+
+-- ---- whether the near side goes on with an index
+
+pub follows-none : (last index : ℕ) → index ≡ 0 → false ≡ eqb index (last + 1)
+follows-none last index z = sym (ne-eqb index (last + 1) (λ (e : index ≡ last + 1). omega (arith, z, e)))
+
+pub follows-some : (last index : ℕ) → (index ≡ 0 → ⊥) → eqb (index - 1) last ≡ eqb index (last + 1)
+follows-some last index some = go (eqb index (last + 1)) refl
+  where
+    go : (b : Bool) → eqb index (last + 1) ≡ b → eqb (index - 1) last ≡ b
+    go true e = let k = eqb-true index (last + 1) e in eq-eqb (index - 1) last (omega (arith, k))
+    go false e = ne-eqb (index - 1) last (λ (k : index - 1 ≡ last). eqb-false index (last + 1) e (omega (arith, k, some)))
+
+module _ (n : Near) (index : ℕ) {rests : Bool} (rest : rests ≡ idle n) where
+  pub held-idle : rests ≡ true → n ≡ heldAt n index
+  held-idle h = sym (pick-false (hole n index) _ _ (pick-false (not (idle n)) _ false (ap not (sym rest ∙ h))))
+
+  module _ (under-way : rests ≡ false) {next : Bool} (is : next ≡ eqb index (n .last + 1)) where
+    tested : hole n index ≡ not next
+    tested = pick-true (not (idle n)) _ false (ap not (sym rest ∙ under-way)) ∙ ap not (sym is)
+
+    pub held-on : next ≡ true → n ≡ heldAt n index
+    held-on h = sym (pick-false (hole n index) _ _ (tested ∙ ap not h))
+
+    pub held-none : next ≡ false → emptied n ≡ heldAt n index
+    held-none h = sym (pick-true (hole n index) _ _ (tested ∙ ap not h))
 
 -- ---- one far sample, by the test
 
@@ -125,13 +156,13 @@ module _ (slack : ℕ) (g : Geometry) (f : Far) (e : List Float) (x : Float) whe
 module _ (g : Geometry) (n : Near) (l : List Float) (x : Float) (index : ℕ) where
   pub closes-bin : n .count + 1 ≡ g .decimation
       → gather g (record { near = n; levels = l }) x index
-      ≡ record { near = record { len = n .len + 1; sum = zero64; count = 0; first = firstBin g n index }; levels = set l (n .len) (levelOf g (summed (n .sum) x)) }
+      ≡ record { near = record { len = n .len + 1; sum = zero64; count = 0; first = firstBin g n index; last = index }; levels = set l (n .len) (levelOf g (summed (n .sum) x)) }
   unfolding gather
   closes-bin h = pick-true (eqb (n .count + 1) (g .decimation)) _ _ (eq-eqb _ _ h)
 
   pub goes-on-bin : (n .count + 1 ≡ g .decimation → ⊥)
       → gather g (record { near = n; levels = l }) x index
-      ≡ record { near = record { len = n .len; sum = summed (n .sum) x; count = n .count + 1; first = firstBin g n index }; levels = l }
+      ≡ record { near = record { len = n .len; sum = summed (n .sum) x; count = n .count + 1; first = firstBin g n index; last = index }; levels = l }
   unfolding gather
   goes-on-bin h = pick-false (eqb (n .count + 1) (g .decimation)) _ _ (ne-eqb _ _ h)
 

@@ -16,12 +16,12 @@ abbrev pub levelOfBlock : Geometry → ℕ → List Float → Float
 levelOfBlock g j stream = levelOf g (upto (λ i. magnitude (at stream (j * g .decimation + i))) (g .decimation))
 
 -- the far side after a making and the whole stream
-abbrev pub after : ℕ → Geometry → List Float → List Float → Heard
-after slack g envelope stream = hearAll slack g (record { far = newFar; envelope = envelope }) stream
+abbrev pub farAfter : ℕ → Geometry → List Float → List Float → Heard
+farAfter slack g envelope stream = hearAll slack g (record { far = newFar; envelope = envelope }) stream
 
 -- Block j is written, and not yet overwritten: its level stands at j modulo the envelope length.
 abbrev pub HoldsLevels : Type 0
 HoldsLevels =
     (slack : ℕ) (g : Geometry) (envelope stream : List Float) (j : ℕ) → 0 < g .decimation → 0 < envelopeLen slack g → length envelope ≡ envelopeLen slack g
-    → j < after slack g envelope stream .far .next → after slack g envelope stream .far .next ≤ j + envelopeLen slack g
-    → at (after slack g envelope stream .envelope) (j % envelopeLen slack g) ≡ levelOfBlock g j stream
+    → j < farAfter slack g envelope stream .far .next → farAfter slack g envelope stream .far .next ≤ j + envelopeLen slack g
+    → at (farAfter slack g envelope stream .envelope) (j % envelopeLen slack g) ≡ levelOfBlock g j stream

@@ -2,7 +2,6 @@
 use Prim.Native.Nat.{ℕ, _+_, _*_, _<_}
 use mathlib.Core.Path.{_≡_}
 use mathlib.Core.List.{List, [], _∷_, _++_}
-use mathlib.Core.Bool.{Bool, true, false}
 use lib.Dec.{eqb}
 use lib.ListN.{length}
 use lib.Ieee.{Float}
@@ -11,6 +10,7 @@ use Rattle.answers.specs.Refusals.{none}
 use Rattle.floats.specs.Functions.{magnitude}
 use Rattle.folds.specs.Sums.{upto, at}
 use Rattle.scan.specs.State.{World}
+use Rattle.scan.specs.Blocks.{hole}
 use Rattle.scan.specs.Calls.{pushedNear}
 use Rattle.scan.specs.Steps.{Call, near, score, rearm, discard, reset, ask, far, deed, refusalOf, called}
 use Rattle.scan.specs.Streams.{Item, after, Began}
@@ -21,18 +21,19 @@ use Rattle.scan.specs.declared.Taking.{Taking}
 use Rattle.scan.specs.declared.Taking.the-variants as taking
 use Rattle.scan_push.specs.Envelope.{levelOfBlock}
 
--- the sample was taken
-abbrev pub isTaken : Taking → Bool
-isTaken (taking.Refused n) = false
-isTaken taking.Ignored = false
-isTaken taking.Dropped = false
-isTaken taking.Taken = true
-isTaken taking.Full = true
+-- the samples of the frame under way after one sample more, where xs were before it and `held` are what a hole leaves of them
+abbrev pub frameBy : Taking → List Float → List Float → Float → List Float
+frameBy (taking.Refused n) xs held x = xs
+frameBy taking.Ignored xs held x = xs
+frameBy taking.Dropped xs held x = held
+frameBy taking.Taken xs held x = held ++ (x ∷ [])
+frameBy taking.Full xs held x = held ++ (x ∷ [])
 
--- The samples of the frame under way, after one call more: a sample that is taken goes on with them; after a frame that was scored, a rearm, a discard and a reset there are none.
+-- The samples of the frame under way, after one call more: a sample that is taken goes on with them, and with none after a hole; after a frame that was scored, a rearm, a discard and a reset
+-- there are none.
 abbrev pub frameOn : ℕ → List Float → World → Call → List Float
 frameOn slack xs w (far ys) = xs
-frameOn slack xs w (deed (near x index)) = pick (isTaken (pushedNear (w .scan) (w .buffers .levels) x index .took .answer)) (xs ++ (x ∷ [])) xs
+frameOn slack xs w (deed (near x index)) = frameBy (pushedNear (w .scan) (w .buffers .levels) x index .took .answer) xs (pick (hole (w .scan .near) index) [] xs) x
 frameOn slack xs w (deed score) = pick (eqb (refusalOf (called slack w (deed score) .response)) none) [] xs
 frameOn slack xs w (deed rearm) = pick (eqb (refusalOf (called slack w (deed rearm) .response)) none) [] xs
 frameOn slack xs w (deed discard) = pick (eqb (refusalOf (called slack w (deed discard) .response)) none) [] xs

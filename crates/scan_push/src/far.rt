@@ -26,10 +26,13 @@ fn refusal(slack: u32, scan: Scan, envelope: &[f32], samples: &[f32]) -> u8
     if n != 0 {
         return n;
     }
-    level::later_refusal(
-        scan.far.accepted + samples.len() as u64 <= answers::LIMIT,
-        folds::all_finite(samples),
-    )
+    if scan.far.accepted + samples.len() as u64 > answers::LIMIT {
+        return answers::TOO_LARGE;
+    }
+    if !folds::all_finite(samples) {
+        return answers::NOT_FINITE;
+    }
+    0
 }
 
 // The level of a block, at the block's place.

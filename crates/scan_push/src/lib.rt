@@ -1,7 +1,7 @@
 // How far and near samples become levels: the two pushes. No call has a `requires`; what each of them does is defined in crate scan.
 // The modules have the functions behind the calls.
-pub mod level; // what both pushes have in common
-mod sums; // the sums of a far push
+pub mod level; // a block's level
+pub mod sums; // sums of absolute values, for far pushes and runs of near samples
 pub mod far; // a push of far samples
 pub mod near; // one near sample
 
@@ -42,12 +42,13 @@ pub fn push_near(scan: Scan, levels: &mut [f32], sample: f32, index: u64) -> Too
             answer: Taking::Ignored,
         };
     }
-    if near::dropped(g, near, index) {
+    let held = near::held_at(near, index);
+    if near::dropped(g, held, index) {
         return Took {
-            scan,
+            scan: scan_calls::parts::with_near(scan, held),
             answer: Taking::Dropped,
         };
     }
-    let gathered = near::gather(g, near, levels, sample, index);
+    let gathered = near::gather(g, held, levels, sample, index);
     near::taken(scan, gathered)
 }

@@ -9,15 +9,16 @@ use scan_calls::parts;
 use scan_calls::rules;
 ghost use mathlib.Core.Path.{_≡_};
 ghost use mathlib.Core.Bool.{true};
+ghost use lib.Dec.{eqb};
 ghost use lib.Ieee.Scale.{finite};
 ghost use Rattle.answers.specs.Pick.{pick, either};
 ghost use Rattle.scan.specs.Blocks;
-ghost use Rattle.scan.specs.Blocks.{firstBin};
+ghost use Rattle.scan.specs.Blocks.{heldAt, firstBin};
 ghost use Rattle.scan.specs.Calls.{nearRefusal, takenBy, withNear};
 ghost use Rattle.scan.specs.State.{full};
 ghost use Rattle.scan.specs.declared.Taking.the-variants as Taking;
 ghost use Rattle.scan_push.specs.Ready.{Gathers};
-ghost use Prim.Native.Nat.{_<_};
+ghost use Prim.Native.Nat.{_+_, _<_};
 
 // No frame is under way, and the sample begins none.
 pub fn dropped(g: Geometry, n: Near, index: u64) -> bool
@@ -28,6 +29,29 @@ pub fn dropped(g: Geometry, n: Near, index: u64) -> bool
         return false;
     }
     index % g.decimation != 0
+}
+
+// The index is the last one plus one, which may not fit.
+pub fn follows(last: u64, index: u64) -> bool
+    ensures { λ r. ⌜ r ≡ eqb index (last + 1) ⌝ }
+{
+    if index == 0 {
+        return false;
+    }
+    index - 1 == last
+}
+
+// The near side as a sample with this index finds it: a hole drops the frame under way.
+pub fn held_at(n: Near, index: u64) -> Near
+    ensures { λ r. ⌜ r ≡ heldAt n index ⌝ }
+{
+    if rules::idle(n) {
+        return n;
+    }
+    if follows(n.last, index) {
+        return n;
+    }
+    parts::empty(n)
 }
 
 // A dropped sample is not read.
@@ -58,11 +82,17 @@ pub fn refusal(scan: Scan, levels: &[f32], sample: f32, index: u64) -> u8
     if near.len == g.frame {
         return answers::FRAME_WAITS;
     }
-    level::later_refusal(index < answers::LIMIT, readable(g, near, sample, index))
+    if index >= answers::LIMIT {
+        return answers::TOO_LARGE;
+    }
+    if !readable(g, held_at(near, index), sample, index) {
+        return answers::NOT_FINITE;
+    }
+    0
 }
 
 // The frame's first bin: this sample's, where it begins the frame.
-fn first_bin(g: Geometry, n: Near, index: u64) -> u64
+pub fn first_bin(g: Geometry, n: Near, index: u64) -> u64
     requires { ⌜ 0 < g .decimation ⌝ }
     ensures { λ r. ⌜ r ≡ firstBin g n index ⌝ }
 {
@@ -87,6 +117,7 @@ pub fn gather(g: Geometry, n: Near, levels: &mut [f32], sample: f32, index: u64)
             sum,
             count,
             first,
+            last: index,
         };
     }
     let bin = n.len as usize;
@@ -96,6 +127,7 @@ pub fn gather(g: Geometry, n: Near, levels: &mut [f32], sample: f32, index: u64)
         sum: 0.0,
         count: 0,
         first,
+        last: index,
     }
 }
 

@@ -28,12 +28,6 @@ pub struct TwoSums {
     pub second: f64,
 }
 
-fn lesser(m: usize, n: usize) -> usize
-    ensures { λ r. ⌜ (r ≤ m) × (r ≤ n) ⌝ }
-{
-    if m < n { m } else { n }
-}
-
 // Two sums side by side, of n samples each: one goes on from `start`, the other begins at sample m.
 fn abreast(start: f64, samples: &[f32], m: usize, n: usize) -> TwoSums
     requires { ⌜ (m + n ≤ length (now samples)) × (allFinite (now samples) ≡ true) ⌝ }
@@ -59,7 +53,7 @@ pub fn two(start: f64, samples: &[f32], m: usize) -> TwoSums
     ensures { λ r. ⌜ r ≡ record { first = onward start (now (samples .entry)) 0 m; second = onward zero64 (now (samples .entry)) m (length (now (samples .entry)) - m) } ⌝ }
 {
     let others = samples.len() - m;
-    let n = lesser(m, others);
+    let n = answers::smaller(m as u64, others as u64) as usize;
     let begun = abreast(start, samples, m, n);
     TwoSums {
         first: run(begun.first, samples, n, m - n),

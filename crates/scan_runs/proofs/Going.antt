@@ -17,7 +17,7 @@ use Rattle.answers.proofs.Refusals.{passed, passed-both}
 use Rattle.folds.specs.Sums.{at}
 use Rattle.scan.specs.Bins.{nearLen}
 use Rattle.scan.specs.State.{finished, full, due, firstRefusals}
-use Rattle.scan.specs.Blocks.{Seen, dropped}
+use Rattle.scan.specs.Blocks.{Seen, dropped, heldAt}
 use Rattle.scan.specs.Calls.{NearPush, nearRefusal, pushedNear, withNear}
 use Rattle.scan.specs.declared.Near.{Near}
 use Rattle.scan.specs.declared.Scan.{Scan}
@@ -100,7 +100,7 @@ module _ (s₀ : Scan) (levels₀ xs : List Float) (first : ℕ) where
         let parts : part ++ drop (i + m) xs ≡ drop i xs = ap (λ (l : List Float). l ++ drop (i + m) xs) e ∙ ap (λ (l : List Float). take m (drop i xs) ++ l) (sym (drop-drop m i xs)) ∙ take-append-drop m (drop i xs) in
         rw p
         (pick-case (λ (z : Near). Leap s₀ levels₀ xs first n levels index i z) (finite (totalOf (n .sum) part)) (moved n part) n
-        (λ h. let q = leapt part (drop (i + m) xs) now levels index (k .ready) (λ z. r .underway (omega (arith, z))) (omega (arith, r .partial)) (λ z. omega (arith, r .small (omega (arith, z)))) h in
+        (λ h. let q = leapt part (drop (i + m) xs) now levels index (k .ready) (λ z. r .underway (omega (arith, z))) (λ z. r .follows (omega (arith, z))) (omega (arith, r .partial)) (λ z. omega (arith, r .small (omega (arith, z)))) h in
         let taken : n .count + length part - n .count ≡ m = omega arith in
         let rest = ran (withNear s₀ (moved n part)) levels (drop (i + m) xs) (index + m) in
         record {
@@ -139,7 +139,7 @@ module _ (s₀ : Scan) (levels₀ xs : List Float) (first : ℕ) where
         pub below : index < limit
         below = small now levels (k .ready) (at xs i) index h
 
-        pub gathers-if : dropped (s₀ .geometry) n index ≡ false → Gathers (s₀ .geometry) n levels (at xs i)
+        pub gathers-if : dropped (s₀ .geometry) (heldAt n index) index ≡ false → Gathers (s₀ .geometry) (heldAt n index) levels (at xs i)
         gathers-if d = gathers now levels (k .ready) (at xs i) index h d
 
         pub goes : (n′ : Near) (levels′ : List Float) → n′ ≡ stepped (s₀ .geometry) (record { near = n; levels = levels }) (at xs i) index .near

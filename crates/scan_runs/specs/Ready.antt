@@ -11,7 +11,7 @@ use Rattle.answers.specs.Pick.{pick, both, either}
 use Rattle.answers.specs.Numbers.{limit}
 use Rattle.scan.specs.Bins.{nearLen}
 use Rattle.scan.specs.State.{finished, full, idle, due, firstRefusals}
-use Rattle.scan.specs.Blocks.{Seen, gather, dropped, summed}
+use Rattle.scan.specs.Blocks.{Seen, gather, dropped, heldAt, summed}
 use Rattle.scan.specs.declared.Geometry.{Geometry}
 use Rattle.scan.specs.declared.Near.{Near}
 use Rattle.scan.specs.declared.Scan.{Scan}
@@ -20,18 +20,20 @@ use Rattle.scan.specs.declared.Scan.{Scan}
 abbrev pub fills : Geometry → Near → Bool
 fills g n = both (eqb (n .count + 1) (g .decimation)) (eqb (n .len + 1) (g .frame))
 
--- A sample passes in a frame under way. The running sum is read, since a sum that overflows breaks a rule of the state.
+-- A sample passes in a state that was judged. The running sum is read, since a sum that overflows breaks a rule of the state.
 unfoldable pub passable : Geometry → Near → Float → ℕ → Bool
 passable g n x index =
     both (finite (n .sum))
     (both (ltb index limit)
-    (either (dropped g n index)
+    (either (dropped g (heldAt n index) index)
     (both (finite x)
-    (not (fills g n)))))
+    (not (fills g (heldAt n index))))))
 
 -- what such a sample leaves
 abbrev pub stepped : Geometry → Seen → Float → ℕ → Seen
-stepped g t x index = pick (dropped g (t .near) index) t (gather g t x index)
+stepped g t x index =
+    let u : Seen = record { near = heldAt (t .near) index; levels = t .levels } in
+    pick (dropped g (u .near) index) u (gather g u x index)
 
 -- ---- samples that go on with a block and do not complete it: they are summed at once
 
@@ -40,7 +42,7 @@ totalOf sum [] = sum
 totalOf sum (x ∷ xs) = totalOf (summed sum x) xs
 
 abbrev pub moved : Near → List Float → Near
-moved n xs = record { len = n .len; sum = totalOf (n .sum) xs; count = n .count + length xs; first = n .first }
+moved n xs = record { len = n .len; sum = totalOf (n .sum) xs; count = n .count + length xs; first = n .first; last = n .last + length xs }
 
 -- none of them is taken so where the sum is not finite
 abbrev pub stretched : Near → List Float → Near
@@ -52,6 +54,7 @@ pub record Reaches (g : Geometry) (n : Near) (index left m : ℕ) : Type 0 where
   pub partial : n .count + m < g .decimation
   pub small : 0 < m → index + m ≤ limit
   pub underway : 0 < m → idle n ≡ false
+  pub follows : 0 < m → index ≡ n .last + 1
 
 -- ---- a state in which a sample can be taken: 1 to 3 refuse nothing, it is not finished, and no full frame waits
 pub record Open (s : Scan) (levels : List Float) : Type 0 where

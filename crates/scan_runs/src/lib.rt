@@ -11,7 +11,7 @@ ghost use Prim.Native.Nat.{_+_, _^_, _≤_, _<_};
 ghost use lib.ListN.{length};
 ghost use mathlib.Core.Bool.{false};
 ghost use Rattle.scan_push.specs.Ready.{Gathers};
-ghost use Rattle.scan.specs.Blocks.{dropped};
+ghost use Rattle.scan.specs.Blocks.{dropped, heldAt};
 ghost use Rattle.scan_runs.specs.Runs.{Run, ran};
 ghost use Rattle.scan_runs.specs.Ready;
 ghost use Rattle.scan_runs.specs.Ready.{stepped, totalOf, stretched, Reaches, Open};
@@ -33,7 +33,7 @@ fn fills(g: Geometry, n: Near) -> bool
     n.len + 1 == g.frame
 }
 
-// A sample passes in a frame under way.
+// A sample passes in a state that was judged.
 fn passable(g: Geometry, n: Near, sample: f32, index: u64) -> bool
     requires { ⌜ (n .count < g .decimation) × (n .len < g .frame) ⌝ }
     ensures { λ r. ⌜ r ≡ Ready.passable g n sample index ⌝ }
@@ -44,25 +44,27 @@ fn passable(g: Geometry, n: Near, sample: f32, index: u64) -> bool
     if index >= answers::LIMIT {
         return false;
     }
-    if near::dropped(g, n, index) {
+    let held = near::held_at(n, index);
+    if near::dropped(g, held, index) {
         return true;
     }
     if !floats::is_finite32(sample) {
         return false;
     }
-    !fills(g, n)
+    !fills(g, held)
 }
 
 // What a sample that passes leaves.
 fn step(g: Geometry, n: Near, levels: &mut [f32], sample: f32, index: u64) -> Near
-    requires { ⌜ (0 < g .decimation) × (dropped g n index ≡ false → Gathers g n (now levels) sample) ⌝ }
+    requires { ⌜ (0 < g .decimation) × (dropped g (heldAt n index) index ≡ false → Gathers g (heldAt n index) (now levels) sample) ⌝ }
     ensures near { λ r. ⌜ r ≡ stepped g (record { near = n; levels = now (levels .entry) }) sample index .near ⌝ }
     ensures levels { λ r. ⌜ now (levels .exit) ≡ stepped g (record { near = n; levels = now (levels .entry) }) sample index .levels ⌝ }
 {
-    if near::dropped(g, n, index) {
-        return n;
+    let held = near::held_at(n, index);
+    if near::dropped(g, held, index) {
+        return held;
     }
-    near::gather(g, n, levels, sample, index)
+    near::gather(g, held, levels, sample, index)
 }
 
 // ---- samples that go on with a block are summed at once
@@ -80,9 +82,12 @@ fn total(sum: f64, samples: &[f32]) -> f64
 }
 
 fn stretch(n: Near, samples: &[f32]) -> Near
-    requires { ⌜ n .count + length (now samples) < 2 ^ 64 ⌝ }
+    requires { ⌜ (n .count + length (now samples) < 2 ^ 64) × (0 < length (now samples) → n .last + length (now samples) < 2 ^ 64) ⌝ }
     ensures { λ r. ⌜ r ≡ stretched n (now (samples .entry)) ⌝ }
 {
+    if samples.len() == 0 {
+        return n;
+    }
     let sum = total(n.sum, samples);
     if !floats::is_finite(sum) {
         return n;
@@ -92,6 +97,7 @@ fn stretch(n: Near, samples: &[f32]) -> Near
         sum,
         count: n.count + samples.len() as u64,
         first: n.first,
+        last: n.last + samples.len() as u64,
     }
 }
 
@@ -101,6 +107,9 @@ fn reach(g: Geometry, n: Near, index: u64, left: usize) -> usize
     ensures { λ r. ⌜ Reaches g n index left r ⌝ }
 {
     if rules::idle(n) {
+        return 0;
+    }
+    if !near::follows(n.last, index) {
         return 0;
     }
     let block = g.decimation - 1 - n.count;

@@ -1,5 +1,5 @@
 // The calls of records.
-use scan::Change;
+use answers::Change;
 use scan::Changed;
 use scan::Found;
 use scan::Frame;
@@ -185,7 +185,7 @@ fn same_place(a: Region, b: Region) -> bool {
     if there.0 != here.0 {
         return false;
     }
-    vectors::patterns::bits64(a.correlation) == vectors::patterns::bits64(b.correlation)
+    floats::bits::pattern64(a.correlation) == floats::bits::pattern64(b.correlation)
 }
 
 fn number_if(is: bool, number: u64) -> u64 {
@@ -201,7 +201,7 @@ fn frame_number(frame: Frame, v: Verdict) -> u64 {
         Frame::Quiet => 3,
         Frame::Flat => 4,
         Frame::Banked(peak) => number_if(
-            vectors::patterns::bits32(peak) == vectors::patterns::bits32(v.last),
+            floats::bits::pattern32(peak) == floats::bits::pattern32(v.last),
             5,
         ),
         Frame::Weak => 6,
@@ -211,10 +211,11 @@ fn frame_number(frame: Frame, v: Verdict) -> u64 {
     }
 }
 
-fn scored_number(answer: Scoring, v: Verdict) -> u64 {
+// The products are those of the record.
+fn scored_number(answer: Scoring, v: Verdict, due: u64) -> u64 {
     match answer {
         Scoring::Refused(_) => OTHER,
-        Scoring::Frame(frame) => frame_number(frame, v),
+        Scoring::Frame(frame, products) => number_if(products == due, frame_number(frame, v)),
     }
 }
 
@@ -248,7 +249,7 @@ fn score_lent(
     )
 }
 
-fn score_held(before: Buffers, scan: Scan) -> Done {
+fn score_held(before: Buffers, scan: Scan, record: &Record) -> Done {
     let envelope = before.envelope;
     let levels = before.levels;
     let mut window = before.window;
@@ -275,17 +276,17 @@ fn score_held(before: Buffers, scan: Scan) -> Done {
         scores,
         sums,
     };
-    scored_done(scored, buffers)
+    scored_done(scored, buffers, vectors::number32(record, 4))
 }
 
-fn scored_done(scored: Scored, buffers: Buffers) -> Done {
+fn scored_done(scored: Scored, buffers: Buffers, products: u32) -> Done {
     let scan = scored.scan;
     let answer = scored.answer;
     let verdict = scan.verdict;
     Done {
         scan,
         buffers,
-        answer: scored_number(answer, verdict),
+        answer: scored_number(answer, verdict, products as u64),
     }
 }
 
@@ -317,7 +318,7 @@ pub fn called(before: Buffers, scan: Scan, record: &Record) -> Done {
         return push_held(before, scan, record);
     }
     if kind == 4 {
-        return score_held(before, scan);
+        return score_held(before, scan, record);
     }
     if kind <= 7 {
         return change_held(before, scan, record);

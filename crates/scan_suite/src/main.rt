@@ -49,7 +49,7 @@ fn try_calls(calls: i32, full: i32, record: &mut Record) -> Tally {
 }
 
 fn try_files(calls: i32, full: i32) -> Tally {
-    let mut record = [0u8; 160];
+    let mut record = [0u8; 168];
     try_calls(calls, full, &mut record)
 }
 

@@ -3,8 +3,9 @@ use crate::buffers;
 use crate::buffers::Buffers;
 use crate::records::OTHER;
 use crate::records::Record;
-use scan::CountReport;
-use scan::FlagReport;
+use answers::Count;
+use answers::Flag;
+use floats::bits;
 use scan::Found;
 use scan::LevelReport;
 use scan::Region;
@@ -14,16 +15,15 @@ use scan_calls::reports;
 use vectors::buffers::hash32_first;
 use vectors::buffers::hash64_first;
 use vectors::files::has_row;
-use vectors::patterns;
 
 // ---- the state
 
 fn far_row(scan: Scan) -> [u64; 5] {
     let far = scan.far;
     [
-        patterns::bits32(scan.verdict.last) as u64,
+        bits::pattern32(scan.verdict.last) as u64,
         far.next,
-        patterns::bits64(far.sum),
+        bits::pattern64(far.sum),
         far.accepted,
         far.count,
     ]
@@ -33,7 +33,7 @@ fn near_row(scan: Scan) -> [u64; 5] {
     let near = scan.near;
     [
         near.len,
-        patterns::bits64(near.sum),
+        bits::pattern64(near.sum),
         near.first,
         near.count,
         scan.verdict.banked as u64,
@@ -44,30 +44,33 @@ fn same_state(scan: Scan, record: &Record) -> bool {
     if !has_row(record, 44, 0b01110, &far_row(scan)) {
         return false;
     }
-    has_row(record, 76, 0b00110, &near_row(scan))
+    if !has_row(record, 76, 0b00110, &near_row(scan)) {
+        return false;
+    }
+    vectors::number(record, 160, 8) == scan.near.last
 }
 
 // ---- the reports
 
 // A flag that is set, as a record has it.
-fn flag(report: FlagReport, k: u64) -> u64 {
+fn flag(report: Flag, k: u64) -> u64 {
     match report {
-        FlagReport::Refused(_) => OTHER,
-        FlagReport::Is(is) => if is { k } else { 0 },
+        Flag::Refused(_) => OTHER,
+        Flag::Is(is) => if is { k } else { 0 },
     }
 }
 
-fn count(report: CountReport) -> u64 {
+fn count(report: Count) -> u64 {
     match report {
-        CountReport::Refused(_) => OTHER,
-        CountReport::Is(n) => n as u64,
+        Count::Refused(_) => OTHER,
+        Count::Is(n) => n,
     }
 }
 
 fn level(report: LevelReport) -> u64 {
     match report {
         LevelReport::Refused(_) => OTHER,
-        LevelReport::Is(x) => patterns::bits32(x) as u64,
+        LevelReport::Is(x) => bits::pattern32(x) as u64,
     }
 }
 
@@ -83,7 +86,7 @@ fn place(region: Region) -> Told {
     Told {
         flag: 4,
         delay: delay.0,
-        correlation: patterns::bits64(region.correlation),
+        correlation: bits::pattern64(region.correlation),
     }
 }
 

@@ -16,14 +16,14 @@ fn low32(n: u64) -> u32 {
 fn store64(out: &mut [f64], place: u32, bits: u64) {
     let i = place as usize;
     if i < out.len() {
-        out[i] = vectors::patterns::float64(bits);
+        out[i] = floats::bits::float64(bits);
     }
 }
 
 fn fill64(out: &mut [f64], bits: u64) {
     let mut i = 0;
     while i < out.len() {
-        out[i] = vectors::patterns::float64(bits);
+        out[i] = floats::bits::float64(bits);
         i += 1;
     }
 }
@@ -39,12 +39,14 @@ fn history(scan: Scan, call: Call) -> Scan {
     parts::with_far(scan, far)
 }
 
-fn full_frame(scan: Scan, first: u64) -> Scan {
+// The last index is read, not multiplied: the state rules hold it to the first bin.
+fn full_frame(scan: Scan, call: Call) -> Scan {
     let near = Near {
         len: scan.geometry.frame,
         sum: 0.0,
         count: 0,
-        first,
+        first: call.number,
+        last: call.last,
     };
     parts::with_near(scan, near)
 }
@@ -98,7 +100,7 @@ pub fn state(scan: Scan, call: Call) -> Scan {
         return history(scan, call);
     }
     if call.kind == 12 {
-        return full_frame(scan, call.number);
+        return full_frame(scan, call);
     }
     if call.kind == 17 {
         return counts(scan, call);

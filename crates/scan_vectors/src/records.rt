@@ -3,7 +3,7 @@ use crate::buffers::Buffers;
 use scan::Scan;
 use vectors::signals::Signal;
 
-pub type Record = [u8; 160];
+pub type Record = [u8; 168];
 
 // What a call is given.
 pub struct Call {
@@ -12,6 +12,7 @@ pub struct Call {
     pub number: u64,
     pub place: u64,
     pub accepted: u64, // of a made-up history
+    pub last: u64, // of a made-up near frame
     pub signal: Signal,
 }
 
@@ -22,6 +23,7 @@ pub fn call_of(record: &Record) -> Call {
         number: vectors::number(record, 8, 8),
         place: vectors::number(record, 16, 8),
         accepted: vectors::number(record, 64, 8),
+        last: vectors::number(record, 160, 8),
         signal: vectors::signals::read(record, 24),
     }
 }

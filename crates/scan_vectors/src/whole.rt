@@ -25,7 +25,7 @@ fn same32(fd: i32, xs: &[f32], n: u64) -> bool {
     let mut same = true;
     let mut i = 0;
     while i < most {
-        let bits = vectors::patterns::bits32(xs[i]) as u64;
+        let bits = floats::bits::pattern32(xs[i]) as u64;
         same = both(same, next_u32(fd) == bits);
         i += 1;
     }
@@ -37,7 +37,7 @@ fn same64(fd: i32, xs: &[f64], n: u64) -> bool {
     let mut same = true;
     let mut i = 0;
     while i < most {
-        let bits = vectors::patterns::bits64(xs[i]);
+        let bits = floats::bits::pattern64(xs[i]);
         same = both(same, next_u64(fd) == bits);
         i += 1;
     }

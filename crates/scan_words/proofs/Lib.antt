@@ -1,5 +1,5 @@
 -- Laws that the proofs share, what callers cite, and what the layout comes to.
-mod Values
+pub mod Given
 mod Lengths
 pub mod Chosen
 pub mod LoadAfterStore

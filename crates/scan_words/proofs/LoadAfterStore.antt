@@ -45,9 +45,9 @@ module _ (g : ℕ → ℕ) (s : Scan) where
       ∷ s .far .next ∷ patternOf binary64 (g 9) (s .far .sum) ∷ s .far .count ∷ s .far .accepted
       ∷ s .near .len ∷ patternOf binary64 (g 13) (s .near .sum) ∷ s .near .count ∷ s .near .first
       ∷ s .verdict .banked ∷ s .verdict .frames ∷ patternOf binary32 (half (g 18) 0) (s .verdict .last)
-      ∷ g 19 ∷ g 20 ∷ g 21 ∷ flagOf (s .verdict .beyond) ∷ flagOf (s .verdict .exhausted) ∷ []
+      ∷ g 19 ∷ g 20 ∷ g 21 ∷ flagOf (s .verdict .beyond) ∷ flagOf (s .verdict .exhausted) ∷ s .near .last ∷ []
 
-  lays : stored (listed g 24) s ≡ storedFound base (s .verdict .found)
+  lays : stored (listed g 25) s ≡ storedFound base (s .verdict .found)
   unfolding stored storedGeometry storedFar storedNear storedVerdict
   lays = refl
 
@@ -108,7 +108,7 @@ module _ (g : ℕ → ℕ) (s : Scan) where
     unfolding loaded
     whole-back f k = rw (geometry-back f, far-back f, near-back f, verdict-back f k)
 
-    back : loaded (stored (listed g 24) s) ≡ s
+    back : loaded (stored (listed g 25) s) ≡ s
     unfolding with-found
     back = ap loaded lays ∙ whole-back (s .verdict .found) (h .found)
 

@@ -1,5 +1,5 @@
--- Where each field of a scan stands in the 24 words that a host lends: geometry 0 to 7, far 8 to 11, near 12 to 15, verdict 16 to 23.
--- A float is its pattern, a flag 0 or 1. Every 24 words load: those that no state stores load as a state that breaks the rule they break,
+-- Where each field of a scan stands in the 25 words that a host lends: geometry 0 to 7, far 8 to 11, near 12 to 15 and 24, verdict 16 to 23.
+-- A float is its pattern, a flag 0 or 1. Any 25 words load: those that no state stores load as a state that breaks the rule they break,
 -- so that a call refuses them with the number that is due, in its place among the refusals.
 use Prim.Native.Nat.{ℕ, _^_}
 use mathlib.Core.Bool.{Bool}
@@ -20,7 +20,7 @@ use Rattle.scan.specs.declared.Scan.{Scan}
 
 -- how many words a state has
 abbrev pub scanWords : ℕ
-scanWords = 24
+scanWords = 25
 
 -- ---- loading
 
@@ -42,7 +42,7 @@ unfoldable pub loadedFar : List ℕ → Far
 loadedFar ws = record { next = word ws 8; sum = ofBits binary64 (word ws 9); count = word ws 10; accepted = word ws 11 }
 
 unfoldable pub loadedNear : List ℕ → Near
-loadedNear ws = record { len = word ws 12; sum = ofBits binary64 (word ws 13); count = word ws 14; first = word ws 15 }
+loadedNear ws = record { len = word ws 12; sum = ofBits binary64 (word ws 13); count = word ws 14; first = word ws 15; last = word ws 24 }
 
 unfoldable pub loadedFound : List ℕ → Found
 loadedFound ws = pick (eqb (word ws 19) 0) Nothing (At (record { delay = samples (word ws 20); correlation = ofBits binary64 (word ws 21) }))
@@ -79,7 +79,7 @@ unfoldable pub storedFar : List ℕ → Far → List ℕ
 storedFar ws f = set (set (set (set ws 8 (f .next)) 9 (patternOf binary64 (word ws 9) (f .sum))) 10 (f .count)) 11 (f .accepted)
 
 unfoldable pub storedNear : List ℕ → Near → List ℕ
-storedNear ws n = set (set (set (set ws 12 (n .len)) 13 (patternOf binary64 (word ws 13) (n .sum))) 14 (n .count)) 15 (n .first)
+storedNear ws n = set (set (set (set (set ws 12 (n .len)) 13 (patternOf binary64 (word ws 13) (n .sum))) 14 (n .count)) 15 (n .first)) 24 (n .last)
 
 -- without a region the region's words are left
 unfoldable pub storedFound : List ℕ → Found → List ℕ

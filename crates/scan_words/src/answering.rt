@@ -1,9 +1,7 @@
-// What a call answers: below 16 its refusal's number, from 16 on the case, in document 01's order; and the values that come with it, which go into a lent list.
+// What a call answers: below 16 its refusal's number, from 16 on the case, in the order of SPECIFICATION 3; and the values that come with it, which go into a lent list.
 use crate::storing;
-use scan::Change;
+use floats::bits;
 use scan::Changed;
-use scan::CountReport;
-use scan::FlagReport;
 use scan::Found;
 use scan::Frame;
 use scan::LevelReport;
@@ -13,39 +11,32 @@ use scan::SamplesReport;
 use scan::Scoring;
 use scan::Taking;
 ghost use mathlib.Core.Path.{_≡_};
-ghost use Prim.Native.Nat.{_+_};
+ghost use Prim.Native.Nat.{_≤_};
 ghost use lib.ListN.{length};
-ghost use Rattle.scan.specs.Scoring.{frameNumber};
+ghost use Rattle.answers.specs.Told.{changeTold};
 ghost use Rattle.words.specs.Words.{oneValue};
+ghost use Rattle.words.specs.Answers.{number, given};
+ghost use Rattle.scan.specs.Told.{takingTold, frameTold, scoringTold, foundTold, regionTold, levelTold, samplesTold};
 ghost use Rattle.scan_words.specs.Layout.{scanWords};
-ghost use Rattle.scan_words.specs.Answers.{frameValues, regionValues, changeNumber, changedWords, takingNumber, scoringNumber, foundNumber, regionNumber, flagNumber, countNumber, levelNumber, samplesNumber, placed, frameTold, scoringTold, foundTold, regionTold, countTold, levelTold, samplesTold};
+ghost use Rattle.scan_words.specs.Answers.{frameValues, regionValues, changedWords, placed, scoringGiven, foundGiven, regionGiven, levelGiven};
 
 // How many values a call is lent a list for, where it is not one.
-pub const FRAME_VALUES: usize = 2;
+pub const FRAME_VALUES: usize = 3;
 
 pub const REGION_VALUES: usize = 2;
 
-fn change_number(answer: Change) -> u32
-    ensures { λ r. ⌜ r ≡ changeNumber answer ⌝ }
-{
-    match answer {
-        Change::Refused(n) => n as u32,
-        Change::Done => 16,
-    }
-}
-
 pub fn settle_change(state: &mut [u64], changed: Changed) -> u32
     requires { ⌜ length (now state) ≡ scanWords ⌝ }
-    ensures number { λ r. ⌜ r ≡ changeNumber (changed .answer) ⌝ }
+    ensures number { λ r. ⌜ r ≡ number (changeTold (changed .answer)) ⌝ }
     ensures words { λ r. ⌜ now (state .exit) ≡ changedWords (now (state .entry)) changed ⌝ }
 {
     let scan = changed.scan;
     let answer = changed.answer;
-    storing::settle(state, change_number(answer), scan)
+    storing::settle(state, words::change_number(answer), scan)
 }
 
 pub fn taking_number(answer: Taking) -> u32
-    ensures { λ r. ⌜ r ≡ takingNumber answer ⌝ }
+    ensures { λ r. ⌜ r ≡ number (takingTold answer) ⌝ }
 {
     match answer {
         Taking::Refused(n) => n as u32,
@@ -56,29 +47,19 @@ pub fn taking_number(answer: Taking) -> u32
     }
 }
 
-pub fn flag_number(answer: FlagReport) -> u32
-    ensures { λ r. ⌜ r ≡ flagNumber answer ⌝ }
-{
-    match answer {
-        FlagReport::Refused(n) => n as u32,
-        FlagReport::Is(b) => if b { 17 } else { 16 },
-    }
-}
-
 // A region's delay, and the pattern of its correlation.
 fn place(values: &mut [u64], region: Region, pattern: u64)
-    requires { ⌜ length (now values) ≡ regionValues ⌝ }
+    requires { ⌜ regionValues ≤ length (now values) ⌝ }
     ensures { λ _. ⌜ now (values .exit) ≡ placed (now (values .entry)) region pattern ⌝ }
 {
     values[0] = region.delay.0;
     values[1] = pattern;
 }
 
-// A frame that was scored has one pattern for each value: where it goes nothing stands that is kept.
 fn tell_frame(values: &mut [u64], frame: Frame) -> u32
     requires { ⌜ length (now values) ≡ frameValues ⌝ }
-    ensures number { λ r. ⌜ r ≡ 15 + frameNumber frame ⌝ }
-    ensures values { λ r. ⌜ now (values .exit) ≡ frameTold (now (values .entry)) frame ⌝ }
+    ensures number { λ r. ⌜ r ≡ number (frameTold frame) ⌝ }
+    ensures values { λ r. ⌜ now (values .exit) ≡ given (now (values .entry)) (frameTold frame) ⌝ }
 {
     match frame {
         Frame::Uncovered => 16,
@@ -86,14 +67,14 @@ fn tell_frame(values: &mut [u64], frame: Frame) -> u32
         Frame::Quiet => 18,
         Frame::Flat => 19,
         Frame::Banked(peak) => {
-            values[0] = words::pattern32(0, peak) as u64;
+            values[0] = bits::pattern32(peak) as u64;
             20
         }
         Frame::Weak => 21,
         Frame::Ceiling => 22,
         Frame::Crowded => 23,
         Frame::Region(region) => {
-            place(values, region, words::pattern(0, region.correlation));
+            place(values, region, bits::pattern64(region.correlation));
             24
         }
     }
@@ -101,12 +82,16 @@ fn tell_frame(values: &mut [u64], frame: Frame) -> u32
 
 pub fn tell_scoring(values: &mut [u64], answer: Scoring) -> u32
     requires { ⌜ length (now values) ≡ frameValues ⌝ }
-    ensures number { λ r. ⌜ r ≡ scoringNumber answer ⌝ }
-    ensures values { λ r. ⌜ now (values .exit) ≡ scoringTold (now (values .entry)) answer ⌝ }
+    ensures number { λ r. ⌜ r ≡ number (scoringTold answer) ⌝ }
+    ensures values { λ r. ⌜ now (values .exit) ≡ scoringGiven (now (values .entry)) answer ⌝ }
 {
     match answer {
         Scoring::Refused(n) => n as u32,
-        Scoring::Frame(frame) => tell_frame(values, frame),
+        Scoring::Frame(frame, products) => {
+            let number = tell_frame(values, frame);
+            values[2] = products;
+            number
+        }
     }
 }
 
@@ -114,8 +99,8 @@ pub fn tell_scoring(values: &mut [u64], answer: Scoring) -> u32
 
 fn tell_found(values: &mut [u64], old: u64, found: Found) -> u32
     requires { ⌜ length (now values) ≡ regionValues ⌝ }
-    ensures number { λ r. ⌜ r ≡ foundNumber found ⌝ }
-    ensures values { λ r. ⌜ now (values .exit) ≡ foundTold (now (values .entry)) old found ⌝ }
+    ensures number { λ r. ⌜ r ≡ number (foundTold found) ⌝ }
+    ensures values { λ r. ⌜ now (values .exit) ≡ foundGiven (now (values .entry)) old found ⌝ }
 {
     match found {
         Found::Nothing => 16,
@@ -128,8 +113,8 @@ fn tell_found(values: &mut [u64], old: u64, found: Found) -> u32
 
 pub fn tell_region(values: &mut [u64], old: u64, answer: RegionReport) -> u32
     requires { ⌜ length (now values) ≡ regionValues ⌝ }
-    ensures number { λ r. ⌜ r ≡ regionNumber answer ⌝ }
-    ensures values { λ r. ⌜ now (values .exit) ≡ regionTold (now (values .entry)) old answer ⌝ }
+    ensures number { λ r. ⌜ r ≡ number (regionTold answer) ⌝ }
+    ensures values { λ r. ⌜ now (values .exit) ≡ regionGiven (now (values .entry)) old answer ⌝ }
 {
     match answer {
         RegionReport::Refused(n) => n as u32,
@@ -137,24 +122,10 @@ pub fn tell_region(values: &mut [u64], old: u64, answer: RegionReport) -> u32
     }
 }
 
-pub fn tell_count(values: &mut [u64], answer: CountReport) -> u32
-    requires { ⌜ length (now values) ≡ oneValue ⌝ }
-    ensures number { λ r. ⌜ r ≡ countNumber answer ⌝ }
-    ensures values { λ r. ⌜ now (values .exit) ≡ countTold (now (values .entry)) answer ⌝ }
-{
-    match answer {
-        CountReport::Refused(n) => n as u32,
-        CountReport::Is(count) => {
-            values[0] = count as u64;
-            16
-        }
-    }
-}
-
 pub fn tell_level(values: &mut [u64], old: u32, answer: LevelReport) -> u32
     requires { ⌜ length (now values) ≡ oneValue ⌝ }
-    ensures number { λ r. ⌜ r ≡ levelNumber answer ⌝ }
-    ensures values { λ r. ⌜ now (values .exit) ≡ levelTold (now (values .entry)) old answer ⌝ }
+    ensures number { λ r. ⌜ r ≡ number (levelTold answer) ⌝ }
+    ensures values { λ r. ⌜ now (values .exit) ≡ levelGiven (now (values .entry)) old answer ⌝ }
 {
     match answer {
         LevelReport::Refused(n) => n as u32,
@@ -167,8 +138,8 @@ pub fn tell_level(values: &mut [u64], old: u32, answer: LevelReport) -> u32
 
 pub fn tell_samples(values: &mut [u64], answer: SamplesReport) -> u32
     requires { ⌜ length (now values) ≡ oneValue ⌝ }
-    ensures number { λ r. ⌜ r ≡ samplesNumber answer ⌝ }
-    ensures values { λ r. ⌜ now (values .exit) ≡ samplesTold (now (values .entry)) answer ⌝ }
+    ensures number { λ r. ⌜ r ≡ number (samplesTold answer) ⌝ }
+    ensures values { λ r. ⌜ now (values .exit) ≡ given (now (values .entry)) (samplesTold answer) ⌝ }
 {
     match answer {
         SamplesReport::Refused(n) => n as u32,

@@ -34,7 +34,7 @@ fn load_far(state: &[u64]) -> Far
 {
     Far {
         next: state[8],
-        sum: words::float(state[9]),
+        sum: floats::bits::float64(state[9]),
         count: state[10],
         accepted: state[11],
     }
@@ -46,9 +46,10 @@ fn load_near(state: &[u64]) -> Near
 {
     Near {
         len: state[12],
-        sum: words::float(state[13]),
+        sum: floats::bits::float64(state[13]),
         count: state[14],
         first: state[15],
+        last: state[24],
     }
 }
 
@@ -61,7 +62,7 @@ fn load_found(state: &[u64]) -> Found
     }
     Found::At(Region {
         delay: Samples(state[20]),
-        correlation: words::float(state[21]),
+        correlation: floats::bits::float64(state[21]),
     })
 }
 
@@ -92,7 +93,7 @@ fn load_verdict(state: &[u64]) -> Verdict
     Verdict {
         banked: load_banked(state),
         frames: words::half(state[17], 0),
-        last: words::float32(words::half(state[18], 0)),
+        last: floats::bits::float32(words::half(state[18], 0)),
         found: load_found(state),
         beyond: state[22] == 1,
         exhausted: state[23] == 1,

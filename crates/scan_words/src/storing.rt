@@ -43,6 +43,7 @@ fn store_near(state: &mut [u64], near: Near)
     state[13] = sum;
     state[14] = near.count;
     state[15] = near.first;
+    state[24] = near.last;
 }
 
 fn store_found(state: &mut [u64], found: Found)

@@ -2,6 +2,7 @@
 
 mod bad;
 mod chance;
+mod holes;
 pub mod long;
 mod refused;
 mod scene;
@@ -44,22 +45,24 @@ pub fn all(random: &mut Random) -> Shelf {
     for turn in 0..16 {
         shelf.add(format!("at random {turn}"), at_random(random, 3000));
     }
+    holes::every(random, &mut shelf);
     shelf
 }
 
-/// One recording at random: cycles alone, few samples, or enough for frames.
+/// One recording at random: cycles alone, few samples, enough for frames, or near runs that go on with holes between them.
 pub fn any(random: &mut Random) -> Recording {
-    match random.below(4) {
+    match random.below(8) {
         0 => {
             let turn = random.below(16) as usize;
             cycles_alone(random, turn)
         }
         1 => at_random(random, 160),
-        _ => at_random(random, 3000),
+        2..=4 => at_random(random, 3000),
+        _ => holes::interrupted(random, 2600),
     }
 }
 
-/// The log that document 01 gives in full.
+/// The log that the scope paper gives in full.
 fn document() -> Recording {
     let mut maker = Maker::new(48_000, 500);
     for delay in [4700, 4500, 4480] {

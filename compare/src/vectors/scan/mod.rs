@@ -1,6 +1,7 @@
 //! Scan calls with every field afterwards and a hash of every buffer.
 
 mod edges;
+mod holes;
 mod script;
 mod streams;
 
@@ -14,6 +15,7 @@ pub fn files(mut random: Random) -> Files {
     streams::echoes(&mut random, &mut stored);
     streams::frames(&mut random, &mut stored);
     edges::all(&mut random, &mut stored);
+    holes::all(&mut random, &mut stored);
     stored.report();
     vec![("calls", stored.calls.0), ("full", stored.full.0)]
 }

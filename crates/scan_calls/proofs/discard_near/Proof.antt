@@ -1,9 +1,11 @@
 -- `scan_calls::discard_near` meets its contract.
 use Rattle.scan.specs.Calls.{discarded}
-use lib.Ieee.{ofBits}
 use borrow.Author.Needs.{needs}
 use Rattle.scan_calls.proofs.discard_near.Statement.{statement}
 use Rattle.scan_calls.proofs.discard_near.Tie as tie
+
+empty-requires : tie.Need-empty-requires
+empty-requires c κs = search needs
 
 unbank-requires : tie.Need-unbank-requires
 unbank-requires c κs = search needs
@@ -18,10 +20,10 @@ same-length : tie.Need-same-length
 same-length c = search needs
 
 returns : tie.Need-returns
-unfolding discarded ofBits
+unfolding discarded
 returns c = (cc, cc)
 
 pub discard-near-spec : {M : Type 1} → statement M
 discard-near-spec =
     tie.close
-    (tie.spec unbank-requires with-near-verdict-requires clear-requires same-length returns)
+    (tie.spec empty-requires unbank-requires with-near-verdict-requires clear-requires same-length returns)

@@ -50,7 +50,12 @@ stretch-requires c κs =
     let l = c .before .before .before .loop in
     let samples = c .before .before .before .before .before .before .before .before .args .samples .now in
     let k = l .inv .1 .ready in
-    omega (arith, length-take (l .i + c .before .reach .result - l .i) (drop (l .i) samples), k .partial, bounded _ _ k .decimation, c .before .reach .ensures .partial)
+    let r = c .before .reach .ensures in
+    let m = c .before .reach .result in
+    let size : length (take (l .i + m - l .i) (drop (l .i) samples)) ≤ m = omega (arith, length-take (l .i + m - l .i) (drop (l .i) samples)) in (
+      omega (arith, size, k .partial, bounded _ _ k .decimation, r .partial),
+      λ z. omega (arith, size, r .follows (omega (arith, size, z)), r .small (omega (arith, size, z))),
+    )
 
 -- the samples that were summed at once
 leap : (c : tie.After-stretch Inv-loop μ-loop)

@@ -1,5 +1,4 @@
 -- `scan_calls::reports::frames` meets its contract.
-use Rattle.answers.proofs.Cases.{cases}
 use Rattle.scan.specs.Calls.{framesOf}
 use borrow.Author.Needs.{needs}
 use Rattle.scan_calls.proofs.reports.frames.Statement.{statement}
@@ -8,13 +7,15 @@ use Rattle.scan_calls.proofs.reports.frames.Tie as tie
 refusal-requires : tie.Need-refusal-requires
 refusal-requires c κs = search needs
 
+cast-of : tie.Need-cast-of
+cast-of c = search needs
+
+of-requires : tie.Need-of-requires
+of-requires c κs = search needs
+
 returns : tie.Need-returns
 unfolding framesOf
-returns c = search (cases, ← c .before .refusal .ensures)
-
-returns-2 : tie.Need-returns-2
-unfolding framesOf
-returns-2 c = search (cases, ← c .before .refusal .ensures)
+returns c = cc
 
 pub frames-spec : {M : Type 1} → statement M
-frames-spec = tie.close (tie.spec refusal-requires returns returns-2)
+frames-spec = tie.close (tie.spec refusal-requires cast-of of-requires returns)

@@ -1,5 +1,6 @@
 -- `scan_calls::rules::first_refusals` meets its contract: the refusals in their order.
-use mathlib.Core.Path.{refl}
+use mathlib.Core.Path.{refl, sym, _∙_}
+use borrow.Author.Tests.{not-false}
 use borrow.Author.Needs.{needs}
 use Rattle.scan.specs.State.{firstRefusals}
 use Rattle.scan_calls.proofs.Chains.{refuses, passes}
@@ -18,7 +19,8 @@ unfolding firstRefusals
 returns-2 c = passes (c .before .before .in-table .ensures) 1 (c .before .if1 .left) (refuses refl 2 _ (c .if2 .taken))
 
 keeps-rules-requires : tie.Need-keeps-rules-requires
-keeps-rules-requires c κs = search needs
+keeps-rules-requires c κs =
+    (c .before .before .before .pre, sym (c .before .before .in-table .ensures) ∙ not-false _ (c .before .if1 .left))
 
 returns-3 : tie.Need-returns-3
 unfolding firstRefusals

@@ -1,21 +1,16 @@
 -- `scan_calls::rules::keeps_rules` meets its contract. `same` is that the geometry is the one due.
-use Prim.Native.Nat.{_<_}
 use mathlib.Core.Path.{_≡_, sym, ap, _∙_}
-use mathlib.Core.Bool.{not, false}
 use borrow.Author.Needs.{needs}
 use borrow.Author.Tests.{not-false}
 use Rattle.scan.specs.Bins.{sameGeometry}
 use Rattle.scan.specs.State.{keepsRules, geometryRule}
 use Rattle.scan_calls.proofs.Chains.{fails, holds}
-use Rattle.scan_calls.proofs.Passing.{divides}
+use Rattle.scan_calls.proofs.Passing.{keeps-bounds}
 use Rattle.scan_calls.proofs.rules.keeps_rules.Statement.{statement}
 use Rattle.scan_calls.proofs.rules.keeps_rules.Tie as tie
 
 same : (c : tie.After-same-geometry) → c .same-geometry .result ≡ geometryRule (c .before .before .before .before .before .args .scan)
-same c = let k = c .before .before .before .before .before in c .same-geometry .ensures ∙ ap (sameGeometry (k .args .scan .geometry)) (k .pre)
-
-some : (c : tie.After-same-geometry) → not (c .same-geometry .result) ≡ false → 0 < c .before .before .before .before .before .args .scan .geometry .decimation
-some c h = divides (c .before .before .before .before .before .args .scan) (sym (same c) ∙ not-false _ h)
+same c = let k = c .before .before .before .before .before in c .same-geometry .ensures ∙ ap (sameGeometry (k .args .scan .geometry)) (k .pre .0)
 
 same-geometry-requires : tie.Need-same-geometry-requires
 same-geometry-requires c κs = search needs
@@ -25,7 +20,9 @@ unfolding keepsRules
 returns c = fails (same (c .before)) _ (c .if1 .taken)
 
 far-rule-requires : tie.Need-far-rule-requires
-far-rule-requires c κs = some (c .before) (c .if1 .left)
+far-rule-requires c κs =
+    let k = c .before .before .before .before .before .before in
+    keeps-bounds (k .args .scan) (k .pre .1) (sym (same (c .before)) ∙ not-false _ (c .if1 .left))
 
 returns-2 : tie.Need-returns-2
 unfolding keepsRules
@@ -34,7 +31,10 @@ returns-2 c =
     holds (same (one .before)) (one .if1 .left) (fails (c .before .far-rule .ensures) _ (c .if2 .taken))
 
 near-rule-requires : tie.Need-near-rule-requires
-near-rule-requires c κs = let one = c .before .before in some (one .before) (one .if1 .left)
+near-rule-requires c κs =
+    let one = c .before .before in
+    let k = one .before .before .before .before .before .before in
+    keeps-bounds (k .args .scan) (k .pre .1) (sym (same (one .before)) ∙ not-false _ (one .if1 .left))
 
 returns-3 : tie.Need-returns-3
 unfolding keepsRules

@@ -1,6 +1,9 @@
 -- `scan_calls::rules::near_rule` meets its contract: each rule in its order.
 use Rattle.answers.proofs.Cases.{cases}
 use Rattle.scan.specs.State.{nearRule}
+use mathlib.Core.Path.{sym, _∙_}
+use native.Mathlib.Omega.{arith}
+use borrow.Author.Tests.{ltb-true, not-false}
 use borrow.Author.Needs.{needs}
 use Rattle.scan_calls.proofs.rules.near_rule.Statement.{statement}
 use Rattle.scan_calls.proofs.rules.near_rule.Tie as tie
@@ -32,7 +35,23 @@ starts-below-limit-requires c κs = search needs
 
 returns-5 : tie.Need-returns-5
 unfolding nearRule
-returns-5 c = search (cases, ← c .before .before .before .before .before .before .before .whole-if-full .ensures, ← c .before .before .is-finite .ensures, ← c .starts-below-limit .ensures)
+returns-5 c = search (cases, ← c .before .before .before .before .before .before .before .before .whole-if-full .ensures, ← c .before .before .before .is-finite .ensures, ← c .before .starts-below-limit .ensures)
+
+in-place-requires : tie.Need-in-place-requires
+in-place-requires c κs =
+    let k = c .before .before .before .before .before .before .before .before .before .before .before .before in
+    let b = k .pre in
+    record {
+      someDecimation = b .someDecimation;
+      decimation = b .decimation;
+      count = omega (arith, c .before .before .before .before .before .before .before .before .before .if1 .left, b .decimation);
+      len = omega (arith, c .before .before .before .before .if3 .left, b .frame);
+      start = ltb-true _ _ (sym (c .before .starts-below-limit .ensures) ∙ not-false _ (c .if5 .left));
+    }
+
+returns-6 : tie.Need-returns-6
+unfolding nearRule
+returns-6 c = search (cases, ← c .before .before .before .before .before .before .before .before .before .whole-if-full .ensures, ← c .before .before .before .before .is-finite .ensures, ← c .before .before .starts-below-limit .ensures, ← c .in-place .ensures)
 
 pub near-rule-spec : {M : Type 1} → statement M
 near-rule-spec =
@@ -45,4 +64,6 @@ near-rule-spec =
     is-finite-requires
     returns-4
     starts-below-limit-requires
-    returns-5)
+    returns-5
+    in-place-requires
+    returns-6)

@@ -1,13 +1,14 @@
 -- `scan_push::far::refusal` meets its contract: the refusals in their order.
 use Prim.Native.Nat.{ℕ}
-use mathlib.Core.Path.{_≡_, sym, ap, _∙_}
+use mathlib.Core.Path.{_≡_, refl, sym, ap, _∙_}
 use native.Mathlib.Omega.{arith}
 use lib.Dec.{eqb}
+use borrow.Author.Tests.{le-leb, lt-leb}
 use lib.ListN.{length}
 use Rattle.scan.specs.Bins.{envelopeLen}
 use Rattle.scan.specs.State.{firstRefusals, due}
 use Rattle.scan.specs.Calls.{farRefusal}
-use Rattle.scan_calls.proofs.Chains.{earlier, later}
+use Rattle.scan_calls.proofs.Chains.{yes, no, refuses, passes, earlier, later}
 use Rattle.scan_push.proofs.Pushing.{room}
 use borrow.Author.Needs.{needs}
 use Rattle.scan_push.proofs.far.refusal.Statement.{statement}
@@ -32,8 +33,8 @@ returns : tie.Need-returns
 unfolding farRefusal
 returns c = earlier (first (c .before)) _ (c .if1 .taken)
 
-add-later-refusal : tie.Need-add-later-refusal
-add-later-refusal c =
+add-if2 : tie.Need-add-if2
+add-if2 c =
     let k = c .before .before .before .before .before .before .before in
     let h = room (k .args .scan) _ (sym (first (c .before .before)) ∙ c .before .if1 .left) in
     record { fits = omega (arith, h, k .good) }
@@ -41,14 +42,23 @@ add-later-refusal c =
 all-finite-requires : tie.Need-all-finite-requires
 all-finite-requires c κs = search needs
 
-later-refusal-requires : tie.Need-later-refusal-requires
-later-refusal-requires c κs = search needs
-
 returns-2 : tie.Need-returns-2
 unfolding farRefusal
 returns-2 c =
-    let one = c .before .before .before in
-    later (first (one .before)) (one .if1 .left) (rw (c .later-refusal .ensures, c .before .all-finite .ensures))
+    let one = c .before .before in
+    later (first (one .before)) (one .if1 .left) (no refl _ (lt-leb _ _ (c .if2 .taken)) refl)
+
+returns-3 : tie.Need-returns-3
+unfolding farRefusal
+returns-3 c =
+    let one = c .before .before .before .before in
+    later (first (one .before)) (one .if1 .left) (yes refl _ (le-leb _ _ (c .before .before .if2 .left)) (refuses (c .before .all-finite .ensures) 4 _ (c .if3 .taken)))
+
+returns-4 : tie.Need-returns-4
+unfolding farRefusal
+returns-4 c =
+    let one = c .before .before .before .before in
+    later (first (one .before)) (one .if1 .left) (yes refl _ (le-leb _ _ (c .before .before .if2 .left)) (passes (c .before .all-finite .ensures) 4 (c .if3 .left) refl))
 
 pub refusal-spec : {M : Type 1} → statement M
 refusal-spec =
@@ -58,7 +68,8 @@ refusal-spec =
     envelope-len-requires
     first-refusals-requires
     returns
-    add-later-refusal
+    add-if2
+    returns-2
     all-finite-requires
-    later-refusal-requires
-    returns-2)
+    returns-3
+    returns-4)

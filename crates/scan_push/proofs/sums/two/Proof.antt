@@ -13,8 +13,8 @@ use Rattle.scan_push.proofs.sums.two.Tie as tie
 sub-others : tie.Need-sub-others
 sub-others c = search needs
 
-lesser-requires : tie.Need-lesser-requires
-lesser-requires c κs = search needs
+smaller-requires : tie.Need-smaller-requires
+smaller-requires c κs = search needs
 
 abreast-requires : tie.Need-abreast-requires
 abreast-requires c κs = search needs
@@ -38,11 +38,11 @@ returns : tie.Need-returns
 returns c =
     let a = c .before .before .before .before .before .args in
     let xs = a .samples .now in
-    let n = c .before .before .before .lesser .result in
-    let h = c .before .before .before .lesser .ensures in
+    let n = c .before .before .before .smaller .result in
+    let h = c .before .before .before .smaller .ensures in
     let e = c .before .before .abreast .ensures in
-    let p = c .before .run .ensures ∙ onward-through (a .start) _ xs 0 (a .m) n n (a .m - n) (ap (λ (t : TwoSums). t .first) e) (omega arith) (omega (arith, h .0)) in
-    let q = c .run2 .ensures ∙ onward-through zero64 _ xs (a .m) (length xs - a .m) (a .m + n) n (length xs - a .m - n) (ap (λ (t : TwoSums). t .second) e) (omega arith) (omega (arith, h .1)) in
+    let p = c .before .run .ensures ∙ onward-through (a .start) _ xs 0 (a .m) n n (a .m - n) (ap (λ (t : TwoSums). t .first) e) (omega arith) (omega (arith, h)) in
+    let q = c .run2 .ensures ∙ onward-through zero64 _ xs (a .m) (length xs - a .m) (a .m + n) n (length xs - a .m - n) (ap (λ (t : TwoSums). t .second) e) (omega arith) (omega (arith, h)) in
     rw (p, q)
 
 pub two-spec : {M : Type 1} → statement M
@@ -50,7 +50,7 @@ two-spec =
     tie.close
     (tie.spec
     sub-others
-    lesser-requires
+    smaller-requires
     abreast-requires
     sub-run
     run-requires

@@ -16,14 +16,14 @@ at-most-requires c κs = search needs
 loop-holds : tie.Need-loop-holds Inv-loop μ-loop
 loop-holds c = search needs
 
-mul-bits32 : tie.Need-mul-bits32 Inv-loop μ-loop
-mul-bits32 c = search needs
+mul-pattern32 : tie.Need-mul-pattern32 Inv-loop μ-loop
+mul-pattern32 c = search needs
 
-shared-slice-read-bits32 : tie.Need-shared-slice-read-bits32 Inv-loop μ-loop
-shared-slice-read-bits32 c = search needs
+shared-slice-read-pattern32 : tie.Need-shared-slice-read-pattern32 Inv-loop μ-loop
+shared-slice-read-pattern32 c = search needs
 
-bits32-requires : tie.Need-bits32-requires Inv-loop μ-loop
-bits32-requires c κs = search needs
+pattern32-requires : tie.Need-pattern32-requires Inv-loop μ-loop
+pattern32-requires c κs = search needs
 
 cast-bits : tie.Need-cast-bits Inv-loop μ-loop
 cast-bits c = search needs
@@ -54,9 +54,9 @@ same32-spec =
     μ-loop
     at-most-requires
     loop-holds
-    mul-bits32
-    shared-slice-read-bits32
-    bits32-requires
+    mul-pattern32
+    shared-slice-read-pattern32
+    pattern32-requires
     cast-bits
     next-u32-requires
     both-requires

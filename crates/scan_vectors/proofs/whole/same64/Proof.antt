@@ -16,14 +16,14 @@ at-most-requires c κs = search needs
 loop-holds : tie.Need-loop-holds Inv-loop μ-loop
 loop-holds c = search needs
 
-mul-bits64 : tie.Need-mul-bits64 Inv-loop μ-loop
-mul-bits64 c = search needs
+mul-pattern64 : tie.Need-mul-pattern64 Inv-loop μ-loop
+mul-pattern64 c = search needs
 
-shared-slice-read-bits64 : tie.Need-shared-slice-read-bits64 Inv-loop μ-loop
-shared-slice-read-bits64 c = search needs
+shared-slice-read-pattern64 : tie.Need-shared-slice-read-pattern64 Inv-loop μ-loop
+shared-slice-read-pattern64 c = search needs
 
-bits64-requires : tie.Need-bits64-requires Inv-loop μ-loop
-bits64-requires c κs = search needs
+pattern64-requires : tie.Need-pattern64-requires Inv-loop μ-loop
+pattern64-requires c κs = search needs
 
 next-u64-requires : tie.Need-next-u64-requires Inv-loop μ-loop
 next-u64-requires c κs = search needs
@@ -51,9 +51,9 @@ same64-spec =
     μ-loop
     at-most-requires
     loop-holds
-    mul-bits64
-    shared-slice-read-bits64
-    bits64-requires
+    mul-pattern64
+    shared-slice-read-pattern64
+    pattern64-requires
     next-u64-requires
     both-requires
     add-i

@@ -1,5 +1,5 @@
 -- `scan_words::answering::taking_number` meets its contract.
-use Rattle.scan_words.specs.Answers.{takingNumber}
+use Rattle.words.specs.Answers.{number}
 use borrow.Author.Needs.{needs}
 use Rattle.scan_words.proofs.answering.taking_number.Statement.{statement}
 use Rattle.scan_words.proofs.answering.taking_number.Tie as tie
@@ -23,23 +23,23 @@ enum-told-4 : tie.Need-enum-told-4
 enum-told-4 c = search needs
 
 returns : tie.Need-returns
-unfolding takingNumber
+unfolding number
 returns c = rw (c .before .answer .given .1)
 
 returns-2 : tie.Need-returns-2
-unfolding takingNumber
+unfolding number
 returns-2 c = rw (c .enum-told .given .1)
 
 returns-3 : tie.Need-returns-3
-unfolding takingNumber
+unfolding number
 returns-3 c = rw (c .enum-told2 .given .1)
 
 returns-4 : tie.Need-returns-4
-unfolding takingNumber
+unfolding number
 returns-4 c = rw (c .enum-told3 .given .1)
 
 returns-5 : tie.Need-returns-5
-unfolding takingNumber
+unfolding number
 returns-5 c = rw (c .enum-told4 .given .1)
 
 pub taking-number-spec : {M : Type 1} → statement M

@@ -1,5 +1,6 @@
 -- `scan_words::answering::tell_found` meets its contract.
-use Rattle.scan_words.specs.Answers.{foundNumber, foundTold}
+use Rattle.words.specs.Answers.{number}
+use Rattle.scan_words.specs.Answers.{foundGiven}
 use borrow.Author.Needs.{needs}
 use Rattle.scan_words.proofs.answering.tell_found.Statement.{statement}
 use Rattle.scan_words.proofs.answering.tell_found.Tie as tie
@@ -17,14 +18,14 @@ place-requires : tie.Need-place-requires
 place-requires c κs = search needs
 
 returns : tie.Need-returns
-unfolding foundNumber foundTold
+unfolding number foundGiven
 returns c = search needs
 
 same-length : tie.Need-same-length
 same-length c = search needs
 
 returns-2 : tie.Need-returns-2
-unfolding foundNumber foundTold
+unfolding number foundGiven
 returns-2 c = (cc, cc)
 
 pub tell-found-spec : {M : Type 1} → statement M

@@ -1,9 +1,6 @@
 -- `scan_words::answering::tell_frame` meets its contract.
-use Rattle.scan_words.specs.Answers.{frameTold}
-use Rattle.scan_words.proofs.Values.{alone}
-use lib.Ieee.{binary32, binary64}
+use Rattle.words.specs.Answers.{number, valuesOf, putFrom}
 use mathlib.Core.Path.{_∙_}
-use Rattle.scan.specs.Scoring.{frameNumber}
 use borrow.Author.Needs.{needs}
 use Rattle.scan_words.proofs.answering.tell_frame.Statement.{statement}
 use Rattle.scan_words.proofs.answering.tell_frame.Tie as tie
@@ -44,53 +41,53 @@ enum-told-7 c = search needs
 enum-known-frame-2 : tie.Need-enum-known-frame-2
 enum-known-frame-2 c = search needs
 
-pattern-requires : tie.Need-pattern-requires
-pattern-requires c κs = search needs
+pattern64-requires : tie.Need-pattern64-requires
+pattern64-requires c κs = search needs
 
 place-requires : tie.Need-place-requires
 place-requires c κs = search needs
 
 returns : tie.Need-returns
-unfolding frameTold
+unfolding number valuesOf putFrom
 returns c = (rw (c .enum-told .given .1), rw (c .enum-told .given .1))
 
 returns-2 : tie.Need-returns-2
-unfolding frameTold
+unfolding number valuesOf putFrom
 returns-2 c = (rw (c .enum-told2 .given .1), rw (c .enum-told2 .given .1))
 
 returns-3 : tie.Need-returns-3
-unfolding frameTold
+unfolding number valuesOf putFrom
 returns-3 c = (rw (c .enum-told3 .given .1), rw (c .enum-told3 .given .1))
 
 returns-4 : tie.Need-returns-4
-unfolding frameTold
+unfolding number valuesOf putFrom
 returns-4 c = (rw (c .enum-told4 .given .1), rw (c .enum-told4 .given .1))
 
 same-length : tie.Need-same-length
 same-length c = search needs
 
 returns-5 : tie.Need-returns-5
-unfolding frameTold
-returns-5 c = (rw (c .before .before .frame .given .1), rw (c .before .before .frame .given .1, c .pattern32 .ensures, alone binary32))
+unfolding number valuesOf putFrom
+returns-5 c = (rw (c .before .before .frame .given .1), rw (c .before .before .frame .given .1, c .pattern32 .ensures))
 
 returns-6 : tie.Need-returns-6
-unfolding frameTold
+unfolding number valuesOf putFrom
 returns-6 c = (rw (c .enum-told5 .given .1), rw (c .enum-told5 .given .1))
 
 returns-7 : tie.Need-returns-7
-unfolding frameTold
+unfolding number valuesOf putFrom
 returns-7 c = (rw (c .enum-told6 .given .1), rw (c .enum-told6 .given .1))
 
 returns-8 : tie.Need-returns-8
-unfolding frameTold
+unfolding number valuesOf putFrom
 returns-8 c = (rw (c .enum-told7 .given .1), rw (c .enum-told7 .given .1))
 
 same-length-2 : tie.Need-same-length-2
 same-length-2 c = search needs
 
 returns-9 : tie.Need-returns-9
-unfolding frameTold
-returns-9 c = (rw (c .before .before .before .before .before .before .frame2 .given .1), c .before .before .place .ensures ∙ rw (c .before .before .before .before .before .before .frame2 .given .1, c .before .before .before .pattern .ensures, alone binary64))
+unfolding number valuesOf putFrom
+returns-9 c = (rw (c .before .before .before .before .before .before .frame2 .given .1), c .before .before .place .ensures ∙ rw (c .before .before .before .before .before .before .frame2 .given .1, c .before .before .before .pattern64 .ensures))
 
 pub tell-frame-spec : {M : Type 1} → statement M
-tell-frame-spec = tie.close (tie.spec enum-told enum-told-2 enum-told-3 enum-told-4 enum-known-frame pattern32-requires cast-values slice-write-values enum-told-5 enum-told-6 enum-told-7 enum-known-frame-2 pattern-requires place-requires returns returns-2 returns-3 returns-4 same-length returns-5 returns-6 returns-7 returns-8 same-length-2 returns-9)
+tell-frame-spec = tie.close (tie.spec enum-told enum-told-2 enum-told-3 enum-told-4 enum-known-frame pattern32-requires cast-values slice-write-values enum-told-5 enum-told-6 enum-told-7 enum-known-frame-2 pattern64-requires place-requires returns returns-2 returns-3 returns-4 same-length returns-5 returns-6 returns-7 returns-8 same-length-2 returns-9)

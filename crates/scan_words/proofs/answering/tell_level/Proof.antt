@@ -1,5 +1,6 @@
 -- `scan_words::answering::tell_level` meets its contract.
-use Rattle.scan_words.specs.Answers.{levelNumber, levelTold}
+use Rattle.words.specs.Answers.{number}
+use Rattle.scan_words.specs.Answers.{levelGiven}
 use borrow.Author.Needs.{needs}
 use Rattle.scan_words.proofs.answering.tell_level.Statement.{statement}
 use Rattle.scan_words.proofs.answering.tell_level.Tie as tie
@@ -23,14 +24,14 @@ slice-write-values : tie.Need-slice-write-values
 slice-write-values c = search needs
 
 returns : tie.Need-returns
-unfolding levelNumber levelTold
+unfolding number levelGiven
 returns c = search needs
 
 same-length : tie.Need-same-length
 same-length c = search needs
 
 returns-2 : tie.Need-returns-2
-unfolding levelNumber levelTold
+unfolding number levelGiven
 returns-2 c = (rw (c .before .before .answer2 .given .1), rw (c .before .before .answer2 .given .1, c .pattern32 .ensures))
 
 pub tell-level-spec : {M : Type 1} → statement M

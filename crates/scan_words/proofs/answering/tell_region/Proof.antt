@@ -1,5 +1,6 @@
 -- `scan_words::answering::tell_region` meets its contract.
-use Rattle.scan_words.specs.Answers.{regionNumber, regionTold}
+use Rattle.words.specs.Answers.{number}
+use Rattle.scan_words.specs.Answers.{regionGiven}
 use borrow.Author.Needs.{needs}
 use Rattle.scan_words.proofs.answering.tell_region.Statement.{statement}
 use Rattle.scan_words.proofs.answering.tell_region.Tie as tie
@@ -17,14 +18,14 @@ tell-found-requires : tie.Need-tell-found-requires
 tell-found-requires c κs = search needs
 
 returns : tie.Need-returns
-unfolding regionNumber regionTold
+unfolding number regionGiven
 returns c = search needs
 
 same-length : tie.Need-same-length
 same-length c = search needs
 
 returns-2 : tie.Need-returns-2
-unfolding regionNumber regionTold
+unfolding number regionGiven
 returns-2 c = (cc, cc)
 
 pub tell-region-spec : {M : Type 1} → statement M

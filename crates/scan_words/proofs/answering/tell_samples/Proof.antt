@@ -1,5 +1,5 @@
 -- `scan_words::answering::tell_samples` meets its contract.
-use Rattle.scan_words.specs.Answers.{samplesNumber, samplesTold}
+use Rattle.words.specs.Answers.{number, valuesOf, putFrom}
 use borrow.Author.Needs.{needs}
 use Rattle.scan_words.proofs.answering.tell_samples.Statement.{statement}
 use Rattle.scan_words.proofs.answering.tell_samples.Tie as tie
@@ -17,14 +17,14 @@ slice-write-values : tie.Need-slice-write-values
 slice-write-values c = search needs
 
 returns : tie.Need-returns
-unfolding samplesNumber samplesTold
+unfolding number valuesOf putFrom
 returns c = search needs
 
 same-length : tie.Need-same-length
 same-length c = search needs
 
 returns-2 : tie.Need-returns-2
-unfolding samplesNumber samplesTold
+unfolding number valuesOf putFrom
 returns-2 c = (rw (c .before .answer2 .given .1), rw (c .before .answer2 .given .1))
 
 pub tell-samples-spec : {M : Type 1} → statement M

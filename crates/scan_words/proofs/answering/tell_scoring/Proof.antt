@@ -1,5 +1,8 @@
 -- `scan_words::answering::tell_scoring` meets its contract.
-use Rattle.scan_words.specs.Answers.{scoringNumber, scoringTold}
+use mathlib.Core.Path.{sym, _∙_}
+use Rattle.words.specs.Answers.{number}
+use Rattle.scan_words.specs.Answers.{scoringGiven}
+use Rattle.scan_words.proofs.Given.{products-behind}
 use borrow.Author.Needs.{needs}
 use Rattle.scan_words.proofs.answering.tell_scoring.Statement.{statement}
 use Rattle.scan_words.proofs.answering.tell_scoring.Tie as tie
@@ -16,16 +19,22 @@ enum-known-answer-2 c = search needs
 tell-frame-requires : tie.Need-tell-frame-requires
 tell-frame-requires c κs = search needs
 
+slice-write-values : tie.Need-slice-write-values
+slice-write-values c = search needs
+
 returns : tie.Need-returns
-unfolding scoringNumber scoringTold
+unfolding number scoringGiven
 returns c = search needs
 
 same-length : tie.Need-same-length
 same-length c = search needs
 
 returns-2 : tie.Need-returns-2
-unfolding scoringNumber scoringTold
-returns-2 c = (rw (c .before .before .before .before .before .answer2 .given .1) (c .before .before .tell-frame .ensures .0), rw (c .before .before .before .before .before .answer2 .given .1) (c .before .before .tell-frame .ensures .1))
+unfolding number scoringGiven
+returns-2 c =
+    let told = c .before .before .tell-frame .ensures in
+    let answer = c .before .before .before .before .before .answer2 .given in
+    (rw (answer .1) (told .0 ∙ sym (products-behind (answer .0 .0) (answer .0 .1 .0))), rw (answer .1, told .1))
 
 pub tell-scoring-spec : {M : Type 1} → statement M
-tell-scoring-spec = tie.close (tie.spec enum-known-answer cast-result enum-known-answer-2 tell-frame-requires returns same-length returns-2)
+tell-scoring-spec = tie.close (tie.spec enum-known-answer cast-result enum-known-answer-2 tell-frame-requires slice-write-values returns same-length returns-2)

@@ -5,7 +5,7 @@ use Rattle.scan_words.proofs.loading.load_verdict.Statement.{statement}
 use Rattle.scan_words.proofs.loading.load_verdict.Tie as tie
 use Rattle.scan_words.proofs.loading.load_banked.Reads as load-banked-reads
 use Rattle.scan_words.proofs.loading.load_found.Reads as load-found-reads
-use Rattle.words.proofs.float32.Reads as float32-reads
+use Rattle.floats.proofs.bits.float32.Reads as float32-reads
 use Rattle.words.proofs.half.Reads as half-reads
 
 load-banked-requires : tie.Need-load-banked-requires

@@ -23,6 +23,9 @@ slice-write-state-3 c = search needs
 slice-write-state-4 : tie.Need-slice-write-state-4
 slice-write-state-4 c = search needs
 
+slice-write-state-5 : tie.Need-slice-write-state-5
+slice-write-state-5 c = search needs depth 12
+
 same-length : tie.Need-same-length
 same-length c = search needs
 
@@ -40,5 +43,6 @@ store-near-spec =
     slice-write-state-2
     slice-write-state-3
     slice-write-state-4
+    slice-write-state-5
     same-length
     returns)
