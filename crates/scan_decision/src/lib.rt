@@ -1,4 +1,4 @@
-// Steps 6 to 8 of document 01: a frame that counts is banked, and on the fourth the averages decide.
+// Steps 6 to 8 of SPECIFICATION 7: a frame that counts is banked, and on the fourth the averages decide.
 use scan::Found;
 use scan::Frame;
 use scan::Geometry;
@@ -90,9 +90,9 @@ fn decide(g: Geometry, averages: &[f64]) -> Frame
     if peak.value < scan::COARSE_CONFIDENT_CORR {
         return Frame::Weak;
     }
-    let delay = Bins(answers::saturating_sub(g.span, peak.at));
+    let delay = Bins(answers::saturating_sub(g.span, peak.place));
     let beyond = at_ceiling(g, delay);
-    let rivalled = crowded(rival(g, averages, peak.at), peak.value);
+    let rivalled = crowded(rival(g, averages, peak.place), peak.value);
     if beyond {
         return Frame::Ceiling;
     }

@@ -1,6 +1,7 @@
 -- What the parts of the code say to each other. The near values less their mean and the window stand at the start of lists that may be longer.
-use Prim.Native.Nat.{ℕ, _+_, _<_, _≤_, _^_}
+use Prim.Native.Nat.{ℕ, zero, suc, _+_, _<_, _≤_, _^_}
 use mathlib.Core.Path.{_≡_}
+use mathlib.Core.Bool.{not}
 use mathlib.Core.List.{List}
 use lib.ListN.{length}
 use lib.Ieee.{Float, binary64, sub, mul, div, le}
@@ -33,17 +34,26 @@ scoreBy product power energy = div binary64 product (root binary64 (mul binary64
 unfoldable pub scoreFrom : List Float → List Float → ℕ → Float → ℕ → Float → Float
 scoreFrom near window frame power k energy = pick (le energy energyFloor) zero64 (scoreBy (productsOf near window frame k) power energy)
 
+-- 1 for an energy above the floor, whose lag's products are formed, else 0; and over the first n lags
+abbrev pub above : Float → ℕ
+above energy = pick (not (le energy energyFloor)) 1 0
+
+unfoldable pub aboveIn : List Float → ℕ → ℕ
+aboveIn energies zero = 0
+aboveIn energies (suc n) = aboveIn energies n + above (at energies n)
+
 -- lags k to k + n - 1 lie inside the lists
 pub record Inside (near window : List Float) (frame k n : ℕ) : Type 0 where
   pub frames : frame ≤ length near
   pub reach : k + n + frame ≤ length window + 1
 
--- a list rewritten up to k is then rewritten up to r, which is further on
-pub record Advanced (f : ℕ → Float → Float) (k r : ℕ) (before after : List Float) : Type 0 where
+-- a list rewritten up to k is then rewritten up to r, which is further on; `live` of the energies between were above the floor
+pub record Advanced (f : ℕ → Float → Float) (k r live : ℕ) (before after : List Float) : Type 0 where
   pub further : k < r
   pub inside : r ≤ length before
   pub size : length after ≡ length before
   pub rewrites : (old : List Float) → Rewritten f old k before → Rewritten f old r after
+  pub counts : (old : List Float) → Rewritten f old k before → aboveIn old r ≡ aboveIn old k + live
 
 -- the lists have the lengths that the frame and the window give them
 pub record Lengths (levels window prefix squares scores : List Float) : Type 0 where

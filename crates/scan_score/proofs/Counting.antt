@@ -10,8 +10,8 @@ use Rattle.answers.specs.Refusals.{none}
 use Rattle.answers.specs.Numbers.{nextCount}
 use Rattle.floats.specs.Functions.{narrow}
 use Rattle.scan.specs.State.{World, Buffers}
-use Rattle.scan.specs.Scoring.{scoresOf, peakOf, addScores, averagesOf, decision, exhaustedBy, verdictBy, Ruling, ruling}
-use Rattle.scan.specs.Calls.{Observation, observation, countedBy, frameOf, windowIn, scoreRefusal, scoredFrame, judged, counted, observed, pushedFar, pushedNear, NearPush, FarPush, Clearing, Restart, made, wasReset, resetRefusal, clearRefusal, rearmed, discarded}
+use Rattle.scan.specs.Scoring.{scoresOf, products, peakOf, addScores, averagesOf, decision, exhaustedBy, verdictBy, Ruling, ruling}
+use Rattle.scan.specs.Calls.{Observation, observation, countedBy, frameOf, windowIn, scoreRefusal, scoredFrame, judged, countedFrame, observed, pushedFar, pushedNear, NearPush, FarPush, Clearing, Restart, made, wasReset, resetRefusal, clearRefusal, rearmed, discarded}
 use Rattle.scan.specs.Steps.{Deed, near, score, rearm, discard, reset, ask, Call, far, deed, Response, scores, changes, refusalOf, called, making}
 use Rattle.scan.specs.Streams.{Item, own, foreign, after}
 use Rattle.scan.specs.declared.Frame.{Frame}
@@ -42,18 +42,18 @@ decision-rules g averages x =
 
 module _ (w : World) (P : Observation → Type 0)
     (refuses : (n : ℕ) → P (record { scored = record { scan = w .scan; answer = scoring.Refused n }; buffers = w .buffers }))
-    (skips : (b : Buffers) (f : Frame) → counts f ≡ false → P (observation (w .scan) (w .scan .verdict) f b))
-    (rules : (window scores lagSums : List Float) (f : Frame) (banked : ℕ) → Rules f (peakOf scores)
-    → P (countedBy w window scores (record { answer = f; verdict = verdictBy (w .scan .verdict) (peakOf scores) f banked; lagSums = lagSums }))) where
-  of-counted : (levels window : List Float) → P (counted w levels window)
-  unfolding counted ruling
+    (skips : (b : Buffers) (f : Frame) → counts f ≡ false → P (observation (w .scan) (w .scan .verdict) f 0 b))
+    (rules : (window scores lagSums : List Float) (f : Frame) (banked formed : ℕ) → Rules f (peakOf scores)
+    → P (countedBy w window scores (record { answer = f; verdict = verdictBy (w .scan .verdict) (peakOf scores) f banked; lagSums = lagSums }) formed)) where
+  of-counted : (levels window : List Float) → P (countedFrame w levels window)
+  unfolding countedFrame ruling
   of-counted levels window =
       let g = w .scan .geometry in
       let c = scoresOf g levels window in
       let t = addScores g (w .buffers .lagSums) c in
-      pick-all (λ (r : Ruling). P (countedBy w window c r)) _ _ _
-      (rules window c t _ _ refl)
-      (rules window c _ _ _ (decision-rules g (averagesOf g t) (peakOf c)))
+      pick-all (λ (r : Ruling). P (countedBy w window c r (products g levels window))) _ _ _
+      (rules window c t _ _ _ refl)
+      (rules window c _ _ _ _ (decision-rules g (averagesOf g t) (peakOf c)))
 
   of-judged : (levels window : List Float) → P (judged w levels window)
   unfolding judged
@@ -106,7 +106,7 @@ banks-peak slack w =
     of-observed w (λ (o : Observation). Carries (o .scored .answer) (narrow (peakOf (o .buffers .scores))))
     (λ n. tt)
     (λ b f e. skips-carry f _ e)
-    (λ window scores lagSums f banked r. rules-carry f (peakOf scores) r)
+    (λ window scores lagSums f banked formed r. rules-carry f (peakOf scores) r)
     slack
 
 pub exhausts-by-step-8 : ExhaustsByStep8
@@ -118,7 +118,7 @@ exhausts-by-step-8 slack w =
     ≡ pick (scoredOne (o .scored .answer)) (exhaustedBy (o .scored .scan .verdict .frames) (o .scored .scan .verdict .found) before) before)
     (λ n. refl)
     (λ b f e. sym (pick-false (counts f) _ _ e))
-    (λ window scores lagSums f banked r. sym (pick-true (counts f) _ _ (rules-count f (peakOf scores) r)))
+    (λ window scores lagSums f banked formed r. sym (pick-true (counts f) _ _ (rules-count f (peakOf scores) r)))
     slack
 
 -- ---- any calls
@@ -131,7 +131,7 @@ frames-scored slack w =
     of-observed w (λ (o : Observation). o .scored .scan .verdict .frames ≡ pick (scoredOne (o .scored .answer)) (nextCount n) n)
     (λ m. refl)
     (λ b f e. sym (pick-false (counts f) _ _ e))
-    (λ window scores lagSums f banked r. sym (pick-true (counts f) _ _ (rules-count f (peakOf scores) r)))
+    (λ window scores lagSums f banked formed r. sym (pick-true (counts f) _ _ (rules-count f (peakOf scores) r)))
     slack
 
 -- a call that clears where it is not refused

@@ -4,7 +4,8 @@ use contract.Lifetimes.{Lfts}
 use denote.Ref.{now}
 use denote.Triple.Clauses.{AtExit}
 use borrow.Fn.Kinds.{Dens, resT, endedOf}
-use Rattle.answers.proofs.Once.{Determined, once}
+use Rattle.answers.specs.Once.{Determined}
+use Rattle.answers.proofs.Once.{once}
 use Rattle.scan.specs.Calls.{Observation}
 use Rattle.scan_score.proofs.observe.Kinds as observe-kinds
 use Rattle.scan_score.proofs.observe.Reads as observe-reads

@@ -16,12 +16,13 @@ use Rattle.answers.proofs.Refusals.{passed, passed-both}
 use Rattle.folds.specs.Sums.{allFinite}
 use Rattle.scan.specs.Bins.{envelopeLen, nearLen, windowLen, prefixLen, lags}
 use Rattle.scan.specs.State.{Buffers, geometryRule, farRule, nearRule, verdictRule, keepsRules, firstRefusals, full, due}
-use Rattle.scan.specs.Scoring.{uncovered, ahead, windowOf}
+use Rattle.scan.specs.Scoring.{uncovered, ahead, windowOf, liveLags}
 use Rattle.scan.specs.Calls.{allLengths, scoreRefusal}
 use Rattle.scan.specs.declared.Geometry.{Geometry}
 use Rattle.scan.specs.declared.Scan.{Scan}
 use Rattle.scan_calls.specs.Bounds.{Bounds}
 use Rattle.scan_decision.specs.Deciding.{Small}
+use Rattle.scan.proofs.Work.{lags-at-most}
 use Rattle.scan_calls.proofs.Chains.{first, second}
 use Rattle.scan_calls.proofs.Passing.{Passed, pass}
 use Rattle.scan_score.specs.Observing.{lent, world, mayRead, Sound, Fit, Ready}
@@ -59,7 +60,7 @@ first-bin s h t =
     let t₁ = second (ltb (s .near .count) (s .geometry .decimation)) _ t in
     let t₂ = second (either _ (eqb (s .near .count) 0)) _ t₁ in
     let t₃ = second (leb (s .near .len) (s .geometry .frame)) _ t₂ in
-    below (s .near .first) (s .geometry .decimation) (2 ^ 62) h (ltb-true _ _ (second (finite (s .near .sum)) _ t₃))
+    below (s .near .first) (s .geometry .decimation) (2 ^ 62) h (ltb-true _ _ (first (ltb (s .near .first * s .geometry .decimation) (2 ^ 62)) _ (second (finite (s .near .sum)) _ t₃)))
 
 few-banked : (s : Scan) → verdictRule (s .near) (s .verdict) ≡ true → s .verdict .banked < 4
 unfolding verdictRule
@@ -123,3 +124,9 @@ module _ (slack : ℕ) (s : Scan) (b : Buffers) where
 
 pub small : (g : Geometry) → Bounds g → Small g
 small g b = record { guarded = omega (arith, b .span, b .ceilingGuard); native = lt-of-le-of-lt (mul-le-mul (b .span) (b .decimation)) (omega arith) }
+
+-- ---- the products fit
+
+-- so many lags of so many bins
+pub few : (g : Geometry) (window : List Float) (frame live n : ℕ) → Bounds g → live ≡ liveLags window frame n → n ≡ lags g → g .frame * live < 2 ^ 64
+few g window frame live n b h e = lt-of-le-of-lt (mul-le-mul (b .frame) (let m : live ≤ 768001 = omega (arith, h, lags-at-most window frame n, e, b .span) in m)) (omega arith)

@@ -33,7 +33,7 @@ counts (frame.Region r) = true
 
 abbrev pub scoredOne : Scoring → Bool
 scoredOne (scoring.Refused n) = false
-scoredOne (scoring.Frame f) = counts f
+scoredOne (scoring.Frame f n) = counts f
 
 -- the answer of a call is such a frame
 abbrev pub countedOne : Response → Bool
@@ -85,7 +85,7 @@ FrameCarries (frame.Region r) x = Unit {0}
 
 abbrev pub Carries : Scoring → Float → Type 0
 Carries (scoring.Refused n) x = Unit {0}
-Carries (scoring.Frame f) x = FrameCarries f x
+Carries (scoring.Frame f n) x = FrameCarries f x
 
 abbrev pub BanksPeak : Type 0
 BanksPeak = (slack : ℕ) (w : World) → Carries (observed slack w .scored .answer) (narrow (peakOf (observed slack w .buffers .scores)))

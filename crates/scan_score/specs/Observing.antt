@@ -33,9 +33,9 @@ world s b = record { scan = s; buffers = b }
 abbrev pub saw : Scored → Buffers → Observation
 saw r b = record { scored = r; buffers = b }
 
--- the near frame consumed, with this verdict and answer
-abbrev pub ended : Scan → Verdict → Frame → Scored
-ended s v a = record { scan = withNearVerdict s (consumed (s .near)) v; answer = scoring.Frame a }
+-- the near frame consumed, with this verdict, this answer and so many products
+abbrev pub ended : Scan → Verdict → Frame → ℕ → Scored
+ended s v a n = record { scan = withNearVerdict s (consumed (s .near)) v; answer = scoring.Frame a n }
 
 -- ---- the window, read across the envelope's wrap
 

@@ -1,4 +1,4 @@
-// `observe` of coarse.rs: a full frame is scored by steps 1 to 8 of document 01.
+// `observe` of coarse.rs: a full frame is scored by steps 1 to 8 of SPECIFICATION 7.
 use scan::Frame;
 use scan::Near;
 use scan::Scan;
@@ -13,7 +13,7 @@ ghost use lib.Ieee.{Float, binary64, add};
 ghost use Rattle.folds.specs.Sums.{table, at};
 ghost use Rattle.scan.specs.Bins.{fullSlack};
 ghost use Rattle.scan.specs.Scoring;
-ghost use Rattle.scan.specs.Calls.{counted, judged, scoredFrame, observed};
+ghost use Rattle.scan.specs.Calls.{countedFrame, judged, scoredFrame, observed};
 ghost use Rattle.scan_calls.specs.Bounds.{Bounds};
 ghost use Rattle.scan_score.specs.Observing.{lent, world, saw, ended, Fit, Ready};
 
@@ -53,22 +53,23 @@ fn add_scores(scores: &[f64], sums: &mut [f64])
 }
 
 // The near frame is consumed in every case.
-fn after(scan: Scan, verdict: Verdict, answer: Frame) -> Scored
-    ensures { λ r. ⌜ r ≡ ended scan verdict answer ⌝ }
+fn after(scan: Scan, verdict: Verdict, answer: Frame, products: u64) -> Scored
+    ensures { λ r. ⌜ r ≡ ended scan verdict answer products ⌝ }
 {
     let near = Near {
         len: 0,
         sum: scan.near.sum,
         count: scan.near.count,
         first: scan.near.first,
+        last: scan.near.last,
     };
     Scored {
         scan: parts::with_near_verdict(scan, near, verdict),
-        answer: scan::Scoring::Frame(answer),
+        answer: scan::Scoring::Frame(answer, products),
     }
 }
 
-// The frame counts. Envelope and old window, which are not lent here, may be any.
+// The frame counts: each lag whose sum was formed took as many products as the frame has bins. Envelope and old window, which are not lent here, may be any.
 fn count_frame(
     scan: Scan,
     levels: &[f32],
@@ -79,17 +80,18 @@ fn count_frame(
     sums: &mut [f64],
 ) -> Scored
     requires { ⌜ Fit (scan .geometry) (now levels) (now window) (now prefix) (now squares) (now scores) (now sums) × Bounds (scan .geometry) × (scan .verdict .banked < 4) ⌝ }
-    ensures { λ r. ⌜ ((e w : List Float) → saw r (lent e (now (levels .entry)) (now (window .entry)) (now (prefix .exit)) (now (squares .exit)) (now (scores .exit)) (now (sums .exit))) ≡ counted (world scan (lent e (now (levels .entry)) w (now (prefix .entry)) (now (squares .entry)) (now (scores .entry)) (now (sums .entry)))) (now (levels .entry)) (now (window .entry))) ⌝ }
+    ensures { λ r. ⌜ ((e w : List Float) → saw r (lent e (now (levels .entry)) (now (window .entry)) (now (prefix .exit)) (now (squares .exit)) (now (scores .exit)) (now (sums .exit))) ≡ countedFrame (world scan (lent e (now (levels .entry)) w (now (prefix .entry)) (now (squares .entry)) (now (scores .entry)) (now (sums .entry)))) (now (levels .entry)) (now (window .entry))) ⌝ }
 {
     let g = scan.geometry;
     let v = scan.verdict;
-    scan_lags::write_scores(levels, window, prefix, squares, scores);
+    let live = scan_lags::write_scores(levels, window, prefix, squares, scores);
+    let products = g.frame * live;
     let peak = folds::search_down(scores);
     add_scores(scores, sums);
     let ruled = scan_decision::rule(g, v, peak.value, sums);
     let verdict = ruled.verdict;
     let answer = ruled.answer;
-    after(scan, verdict, answer)
+    after(scan, verdict, answer, products)
 }
 
 // Steps 3 to 8, from the near levels and the window.
@@ -107,10 +109,10 @@ fn judge(
 {
     let v = scan.verdict;
     if quiet(window) {
-        return after(scan, v, Frame::Quiet);
+        return after(scan, v, Frame::Quiet, 0);
     }
     if flat(levels) {
-        return after(scan, v, Frame::Flat);
+        return after(scan, v, Frame::Flat, 0);
     }
     count_frame(scan, levels, window, prefix, squares, scores, sums)
 }
@@ -135,10 +137,10 @@ fn score(
     let next = scan.far.next;
     let first = scan.near.first;
     if window::uncovered(slack, g, next, first) {
-        return after(scan, v, Frame::Uncovered);
+        return after(scan, v, Frame::Uncovered, 0);
     }
     if window::ahead(g, next, first) {
-        return after(scan, v, Frame::Ahead);
+        return after(scan, v, Frame::Ahead, 0);
     }
     window::fill(
         envelope,
@@ -193,7 +195,7 @@ fn observe_with(
     )
 }
 
-// A full frame is scored: one case of nine. Refused, nothing is written and the frame still waits.
+// A full frame is scored: one case of nine, with the products that its lag sums took. Refused, nothing is written and the frame still waits.
 pub fn observe(
     scan: Scan,
     envelope: &[f32],

@@ -6,11 +6,11 @@ use borrow.Author.Needs.{needs}
 use Rattle.scan_lags.proofs.score.Statement.{statement}
 use Rattle.scan_lags.proofs.score.Tie as tie
 
-square-root-requires : tie.Need-square-root-requires
-square-root-requires c κs = search needs
+square-root-with-requires : tie.Need-square-root-with-requires
+square-root-with-requires c κs = search needs
 
 returns : tie.Need-returns
-returns c = let a = c .before .args in ap (div binary64 (a .product)) (root-only binary64 (mul binary64 (a .power) (a .energy)) _ (c .square-root .ensures))
+returns c = let a = c .before .before .args in ap (div binary64 (a .product)) (root-only binary64 (mul binary64 (a .power) (a .energy)) _ (c .square-root-with .ensures))
 
 pub score-spec : {M : Type 1} → statement M
-score-spec = tie.close (tie.spec square-root-requires returns)
+score-spec = tie.close (tie.spec square-root-with-requires returns)

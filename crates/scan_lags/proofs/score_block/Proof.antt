@@ -12,10 +12,10 @@ use Rattle.scan_lags.proofs.score_block.Tie as tie
 
 products-of-block-requires : tie.Need-products-of-block-requires
 unfolding zeros table ofBits
-products-of-block-requires c κs = (c .before .before .before .before .pre .0 .0, refl)
+products-of-block-requires c κs = (c .before .before .before .before .before .pre .0 .1, refl)
 
 score-sums-requires : tie.Need-score-sums-requires
-score-sums-requires c κs = (c .before .before .before .before .before .before .before .pre .0 .1, ap length (c .before .before .products-of-block .ensures) ∙ length-table _ 16)
+score-sums-requires c κs = let pre = c .before .before .before .before .before .before .before .before .pre .0 in (pre .0, pre .2, ap length (c .before .before .products-of-block .ensures) ∙ length-table _ 16)
 
 same-length : tie.Need-same-length
 same-length c = search needs
@@ -23,7 +23,7 @@ same-length c = search needs
 returns : tie.Need-returns
 returns c =
     let c1 = c .before .before .before .before .before in
-    let c2 = c1 .before .before .before .before .before in
+    let c2 = c1 .before .before .before .before .before .before in
     let a = c2 .args in
     λ old r.
     c .before .before .score-sums .ensures (scoreFrom (a .near .now) (a .window .now) (a .frame) (a .power)) old

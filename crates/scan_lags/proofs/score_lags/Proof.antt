@@ -1,48 +1,55 @@
--- `scan_lags::score_lags` meets its contract. Invariant: the first k energies are rewritten to scores.
-use Prim.Native.Nat.{_≤_, _-_}
+-- `scan_lags::score_lags` meets its contract.
+use Prim.Native.Nat.{ℕ}
+use mathlib.Core.Path.{_≡_, sym, ap, _∙_}
 use lib.ListN.{length}
-use Rattle.folds.specs.Rewriting.{Rewritten}
-use Rattle.folds.proofs.Rewriting.{untouched, rewritten}
+use borrow.Author.Needs.{needs}
+use Rattle.folds.specs.Sums.{table, at}
 use Rattle.scan_lags.specs.Lags.{scoreFrom}
-use native.Mathlib.Omega.{arith}
 use Rattle.scan_lags.proofs.score_lags.Statement.{statement}
 use Rattle.scan_lags.proofs.score_lags.Tie as tie
 
-abbrev Inv-loop : tie.InvT-loop
-Inv-loop near window frame power scores₀ k₀ scores k = (k ≤ length scores₀) × Rewritten (scoreFrom near window frame power) scores₀ k scores
+first-guesses-requires : tie.Need-first-guesses-requires
+first-guesses-requires c κs = search needs
 
-abbrev μ-loop : tie.MeasureT-loop
-μ-loop near window frame power scores₀ k₀ scores k = length scores₀ - k
+slice-aggregate-score-lags-with : tie.Need-slice-aggregate-score-lags-with
+slice-aggregate-score-lags-with c = search needs
 
-loop-holds : tie.Need-loop-holds Inv-loop μ-loop
-loop-holds c = (omega arith, untouched _ _)
+score-lags-with-requires : tie.Need-score-lags-with-requires
+score-lags-with-requires c κs = search needs
 
-score-some-requires : tie.Need-score-some-requires Inv-loop μ-loop
-score-some-requires c κs = (omega (arith, c .before .before .loop .inv .1 .size), c .before .before .before .before .before .before .pre .0, omega (arith, c .before .before .loop .inv .1 .size, c .before .before .before .before .before .before .pre .1))
+same-length : tie.Need-same-length
+same-length c = search needs
 
-loop-less : tie.Need-loop-less Inv-loop μ-loop
-loop-less c = omega (arith, c .before .before .before .before .before .loop .inv .1 .size, c .before .before .score-some .ensures .further, c .before .before .score-some .ensures .inside)
-
-loop-again : tie.Need-loop-again Inv-loop μ-loop
-loop-again c = (omega (arith, c .before .before .before .before .before .loop .inv .1 .size, c .before .before .score-some .ensures .inside), c .before .before .score-some .ensures .rewrites _ (c .before .before .before .before .before .loop .inv .1))
-
-same-length : tie.Need-same-length Inv-loop μ-loop
-same-length c = c .before .loop .inv .1 .size
-
-returns : tie.Need-returns Inv-loop μ-loop
+-- the usual frame is the frame
+returns : tie.Need-returns
 returns c =
-    let a = c .before .before .before .before .before .args in
-    rewritten (scoreFrom (a .near .now) (a .window .now) (a .frame) (a .power)) (a .scores .now) (c .before .loop .k) (c .before .loop .scores) (c .before .loop .inv .1) (omega (arith, c .before .loop .inv .1 .size))
+    let a = c .before .before .before .before .before .before .before .before .before .before .args in
+    let usual : a .frame ≡ 256 = c .before .before .before .before .before .if1 .taken in
+    let e = c .before .before .score-lags-with .ensures in
+    (e .0 ∙ ap (λ (n : ℕ). table (λ k. scoreFrom (a .near .now) (a .window .now) n (a .power) k (at (a .scores .now) k)) (length (a .scores .now))) (sym usual), e .1)
+
+slice-aggregate-score-lags-with-2 : tie.Need-slice-aggregate-score-lags-with-2
+slice-aggregate-score-lags-with-2 c = search needs
+
+score-lags-with-requires-2 : tie.Need-score-lags-with-requires-2
+score-lags-with-requires-2 c κs = search needs
+
+same-length-2 : tie.Need-same-length-2
+same-length-2 c = search needs
+
+returns-2 : tie.Need-returns-2
+returns-2 c = search needs
 
 pub score-lags-spec : {M : Type 1} → statement M
 score-lags-spec =
     tie.close
     (tie.spec
-    Inv-loop
-    μ-loop
-    loop-holds
-    score-some-requires
-    loop-less
-    loop-again
+    first-guesses-requires
+    slice-aggregate-score-lags-with
+    score-lags-with-requires
     same-length
-    returns)
+    returns
+    slice-aggregate-score-lags-with-2
+    score-lags-with-requires-2
+    same-length-2
+    returns-2)

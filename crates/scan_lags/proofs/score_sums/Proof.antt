@@ -18,17 +18,17 @@ abbrev Gives : List Float → Float → ℕ → (ℕ → Float → Float) → Li
 Gives sums power k f old = (j : ℕ) → j < 16 → scoreBy (at sums j) power (at old (k + j)) ≡ f (k + j) (at old (k + j))
 
 abbrev Inv-loop : tie.InvT-loop
-Inv-loop sums power k scores₀ j₀ scores j =
+Inv-loop guesses sums power k scores₀ j₀ scores j =
     (j ≤ 16) ×
     (length scores ≡ length scores₀) ×
     ((f : ℕ → Float → Float) (old : List Float) → Gives sums power k f old → Rewritten f old k scores₀ → Rewritten f old (k + j) scores)
 
 abbrev μ-loop : tie.MeasureT-loop
-μ-loop sums power k scores₀ j₀ scores j = 16 - j
+μ-loop guesses sums power k scores₀ j₀ scores j = 16 - j
 
 loop-holds : tie.Need-loop-holds Inv-loop μ-loop
 loop-holds c =
-    let z : c .before .args .k + 0 ≡ c .before .args .k = omega arith in
+    let z : c .before .before .args .k + 0 ≡ c .before .before .args .k = omega arith in
     (omega arith, refl, λ f old h r. rw z r)
 
 mul-score : tie.Need-mul-score Inv-loop μ-loop
@@ -67,7 +67,7 @@ loop-less c = search needs
 loop-again : tie.Need-loop-again Inv-loop μ-loop
 loop-again c =
     let l = c .before .before .before .before .loop in
-    let a = c .before .before .before .before .before .before .args in
+    let a = c .before .before .before .before .before .before .before .args in
     let z : a .k + (l .j + 1) ≡ a .k + l .j + 1 = omega arith in
     let e = c .score .ensures in (
       omega arith,

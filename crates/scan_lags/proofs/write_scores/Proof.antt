@@ -1,5 +1,5 @@
 -- `scan_lags::write_scores` meets its contract.
-use Rattle.scan_lags.proofs.Whole.{all-scored}
+use Rattle.scan_lags.proofs.Whole.{all-scored, all-counted}
 use borrow.Author.Needs.{needs}
 use Rattle.scan_lags.proofs.write_scores.Statement.{statement}
 use Rattle.scan_lags.proofs.write_scores.Tie as tie
@@ -45,8 +45,9 @@ returns c =
     let c7 = c6 .before .before .before .before .before .before .before .before in
     let c8 = c7 .before .before .before .before .before .before .before .before in
     let a = c8 .args in
-    let scored = all-scored (a .levels .now) (a .window .now) _ _ (c4 .centre .ensures) (c5 .widen .ensures) _ _ _ _ _ _ (c7 .prefixes .ensures .0) (c7 .prefixes .ensures .1) (c6 .write-energies .ensures) (c3 .near-energy .ensures) (c2 .score-lags .ensures) (c8 .pre .lags) in
-    (c1 .prefixes2 .ensures .0, (c1 .prefixes2 .ensures .1, scored))
+    let scored = all-scored (a .levels .now) (a .window .now) _ _ (c4 .centre .ensures) (c5 .widen .ensures) _ _ _ _ _ _ (c7 .prefixes .ensures .0) (c7 .prefixes .ensures .1) (c6 .write-energies .ensures) (c3 .near-energy .ensures) (c2 .score-lags .ensures .0) (c8 .pre .lags) in
+    let counted = all-counted (a .window .now) _ _ _ _ _ _ (c7 .prefixes .ensures .0) (c7 .prefixes .ensures .1) (c6 .write-energies .ensures) (c2 .score-lags .ensures .1) in
+    (c1 .prefixes2 .ensures .0, (c1 .prefixes2 .ensures .1, (scored, counted)))
 
 pub write-scores-spec : {M : Type 1} → statement M
 write-scores-spec =
