@@ -6,16 +6,18 @@ use lib.Ieee.{Float}
 use denote.Ref.{RefT, now}
 use denote.Triple.Both.{Both}
 use Rattle.answers.specs.Pick.{pick}
+use Rattle.answers.specs.declared.Flag.{Flag}
+use Rattle.answers.specs.Told.{changeTold, countTold, flagTold}
 use Rattle.words.specs.Words.{fits, oneValue}
+use Rattle.words.specs.Answers.{number, given}
 use Rattle.scan.specs.Bins.{fullSlack, inTable}
 use Rattle.scan.specs.State.{Buffers}
 use Rattle.scan.specs.Calls.{Restart, made, wasReset, rearmed, discarded, pushedFar, pushedNear, observed, binSamples, ceilingSamples, framesOf, correlationOf, regionOf, beyondCeiling, isFinished, isExhausted}
+use Rattle.scan.specs.Told.{takingTold, scoringTold, regionTold, levelTold, samplesTold}
 use Rattle.scan.specs.declared.Changed.{Changed}
-use Rattle.scan.specs.declared.FlagReport.{FlagReport}
-use Rattle.scan.specs.declared.SamplesReport.{SamplesReport}
 use Rattle.scan_score.specs.Observing.{lent, world}
 use Rattle.scan_words.specs.Layout.{scanWords, loaded}
-use Rattle.scan_words.specs.Answers.{frameValues, regionValues, changeNumber, changedWords, takingNumber, tookWords, scoringNumber, scoringTold, scoredWords, samplesNumber, samplesTold, countNumber, countTold, levelNumber, levelTold, levelPattern, regionNumber, regionTold, correlationPattern, flagNumber}
+use Rattle.scan_words.specs.Answers.{frameValues, regionValues, changedWords, tookWords, scoredWords, scoringGiven, levelGiven, levelPattern, regionGiven, correlationPattern}
 use Rattle.face.specs.Face.{Left, left, settingFirst, judged, unlessRefused}
 
 -- the length of what is lent, by rate and ceiling; 0 where one is outside the table
@@ -29,7 +31,7 @@ judgedScan ws valuesFit = judged (fits scanWords ws) (inTable (loaded ws .geomet
 -- ---- calls that change the state
 
 abbrev pub changeLeft : {B : Type 0} → List ℕ → Changed → B → Left B
-changeLeft ws c b = left (changeNumber (c .answer)) (changedWords ws c) [] b
+changeLeft ws c b = left (number (changeTold (c .answer))) (changedWords ws c) [] b
 
 -- what a making and a reset are lent
 pub record History : Type 0 where
@@ -95,43 +97,42 @@ pushFarCalled ws envelope xs =
 unfoldable pub pushNearCalled : List ℕ → List Float → Float → ℕ → Left (List Float)
 pushNearCalled ws levels sample index =
     let p = pushedNear (loaded ws) levels sample index in
-    unlessRefused (judgedScan ws true) ws [] levels (left (takingNumber (p .took .answer)) (tookWords ws (p .took)) [] (p .levels))
+    unlessRefused (judgedScan ws true) ws [] levels (left (number (takingTold (p .took .answer))) (tookWords ws (p .took)) [] (p .levels))
 
 -- lent: all seven buffers
 unfoldable pub observeCalled : List ℕ → Buffers → List ℕ → Left Buffers
 observeCalled ws b vs =
     let o = observed fullSlack (world (loaded ws) b) in
     unlessRefused (judgedScan ws (fits frameValues vs)) ws vs b
-    (left (scoringNumber (o .scored .answer)) (scoredWords ws (o .scored)) (scoringTold vs (o .scored .answer)) (o .buffers))
+    (left (number (scoringTold (o .scored .answer))) (scoredWords ws (o .scored)) (scoringGiven vs (o .scored .answer)) (o .buffers))
 
 -- ---- reports
 
-abbrev pub samplesCalled : List ℕ → List ℕ → SamplesReport → Left (Unit {0})
-samplesCalled ws vs report = unlessRefused (judgedScan ws (fits oneValue vs)) ws vs tt (left (samplesNumber report) ws (samplesTold vs report) tt)
+-- a report of one number, which tells this
+abbrev pub reportCalled : List ℕ → List ℕ → List ℕ → Left (Unit {0})
+reportCalled ws vs told = unlessRefused (judgedScan ws (fits oneValue vs)) ws vs tt (left (number told) ws (given vs told) tt)
 
 unfoldable pub binSamplesCalled : List ℕ → List ℕ → Left (Unit {0})
-binSamplesCalled ws vs = samplesCalled ws vs (binSamples (loaded ws))
+binSamplesCalled ws vs = reportCalled ws vs (samplesTold (binSamples (loaded ws)))
 
 unfoldable pub ceilingSamplesCalled : List ℕ → List ℕ → Left (Unit {0})
-ceilingSamplesCalled ws vs = samplesCalled ws vs (ceilingSamples (loaded ws))
+ceilingSamplesCalled ws vs = reportCalled ws vs (samplesTold (ceilingSamples (loaded ws)))
 
 unfoldable pub framesCalled : List ℕ → List ℕ → Left (Unit {0})
-framesCalled ws vs =
-    let report = framesOf (loaded ws) in
-    unlessRefused (judgedScan ws (fits oneValue vs)) ws vs tt (left (countNumber report) ws (countTold vs report) tt)
+framesCalled ws vs = reportCalled ws vs (countTold (framesOf (loaded ws)))
 
 unfoldable pub correlationCalled : List ℕ → List ℕ → Left (Unit {0})
 correlationCalled ws vs =
     let report = correlationOf (loaded ws) in
-    unlessRefused (judgedScan ws (fits oneValue vs)) ws vs tt (left (levelNumber report) ws (levelTold vs (levelPattern ws) report) tt)
+    unlessRefused (judgedScan ws (fits oneValue vs)) ws vs tt (left (number (levelTold report)) ws (levelGiven vs (levelPattern ws) report) tt)
 
 unfoldable pub regionCalled : List ℕ → List ℕ → Left (Unit {0})
 regionCalled ws vs =
     let report = regionOf (loaded ws) in
-    unlessRefused (judgedScan ws (fits regionValues vs)) ws vs tt (left (regionNumber report) ws (regionTold vs (correlationPattern ws) report) tt)
+    unlessRefused (judgedScan ws (fits regionValues vs)) ws vs tt (left (number (regionTold report)) ws (regionGiven vs (correlationPattern ws) report) tt)
 
-abbrev pub flagCalled : List ℕ → FlagReport → Left (Unit {0})
-flagCalled ws report = unlessRefused (judgedScan ws true) ws [] tt (left (flagNumber report) ws [] tt)
+abbrev pub flagCalled : List ℕ → Flag → Left (Unit {0})
+flagCalled ws report = unlessRefused (judgedScan ws true) ws [] tt (left (number (flagTold report)) ws [] tt)
 
 unfoldable pub beyondCeilingCalled : List ℕ → Left (Unit {0})
 beyondCeilingCalled ws = flagCalled ws (beyondCeiling (loaded ws))

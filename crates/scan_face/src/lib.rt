@@ -282,7 +282,7 @@ pub extern "C" fn tmv_scan_frames(state: &[u64], values: &mut [u64]) -> u32
     if refusal != 0 {
         return refusal;
     }
-    answering::tell_count(values, scan_calls::reports::frames(loading::load(state)))
+    words::tell_count(values, scan_calls::reports::frames(loading::load(state)))
 }
 
 // The region's averaged correlation as f32, and before there is one the last frame's peak.
@@ -328,7 +328,7 @@ pub extern "C" fn tmv_scan_beyond_ceiling(state: &[u64]) -> u32
     if refusal != 0 {
         return refusal;
     }
-    answering::flag_number(scan_calls::reports::beyond_ceiling(loading::load(state)))
+    words::flag_number(scan_calls::reports::beyond_ceiling(loading::load(state)))
 }
 
 // Whether the scan found a region or gave up.
@@ -340,7 +340,7 @@ pub extern "C" fn tmv_scan_finished(state: &[u64]) -> u32
     if refusal != 0 {
         return refusal;
     }
-    answering::flag_number(scan_calls::reports::finished(loading::load(state)))
+    words::flag_number(scan_calls::reports::finished(loading::load(state)))
 }
 
 // Whether the scan gave up.
@@ -352,5 +352,5 @@ pub extern "C" fn tmv_scan_exhausted(state: &[u64]) -> u32
     if refusal != 0 {
         return refusal;
     }
-    answering::flag_number(scan_calls::reports::exhausted(loading::load(state)))
+    words::flag_number(scan_calls::reports::exhausted(loading::load(state)))
 }

@@ -1,0 +1,9 @@
+pub mod Sums
+pub mod Places
+pub mod Alike
+pub mod Gathers
+pub mod Calls
+pub mod Theorems
+pub mod InStreams
+pub mod Examples
+pub mod Determined
