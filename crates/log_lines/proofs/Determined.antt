@@ -6,7 +6,8 @@ use contract.Lifetimes.{Lfts}
 use denote.Ref.{now}
 use denote.Triple.Clauses.{AtExit}
 use borrow.Fn.Kinds.{Dens, resT, endedOf}
-use Rattle.answers.proofs.Once.{Determined, once}
+use Rattle.answers.specs.Once.{Determined}
+use Rattle.answers.proofs.Once.{once}
 use Rattle.log_lines.specs.Calls.{Reads}
 use Rattle.log_lines.specs.declared.Read.{Read}
 use Rattle.log_lines.specs.declared.Read.the-variants.{Known, NotALogLine}

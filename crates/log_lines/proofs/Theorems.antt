@@ -118,7 +118,7 @@ plain-at (x ∷ t) (suc i) p e = plain-at t i (both-true (leb 32 x) (plain t) p 
 pub no-newline : (l : Line) (i : ℕ) → getD (textOf l) i 0 ≡ 10 → ⊥
 no-newline l i e = plain-at (textOf l) i (plain-line l) e
 
--- ---- document 01's whole log, line by line
+-- ---- the whole log of SPECIFICATION 12, line by line
 
 pub document : (textOf (Replay 48000 500) ≡ ascii "replay rate 48000 ceiling 500")
     × (textOf (Cycle 0 Hold) ≡ ascii "cycle 0 hold")

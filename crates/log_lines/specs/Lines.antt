@@ -1,4 +1,4 @@
--- Document 01, "Replay": the lines of a log, each without the newline that ends it.
+-- SPECIFICATION 12: the lines of a log, each without the newline that ends it.
 use Prim.Native.Nat.{ℕ, _^_}
 use mathlib.Core.Bool.{Bool, true}
 use mathlib.Core.List.{List, _++_}
@@ -50,9 +50,9 @@ textOf BadHeader = ascii "bad header"
 textOf (BadEvent event) = ascii "bad event " ++ decimal event
 textOf BadTotals = ascii "bad totals"
 
--- ---- what its numbers can be: rate, ceiling, delays and refusals as document 01's tables allow, any other as wide as it is kept
+-- ---- the range of its numbers: rate, ceiling, delays and refusals as SPECIFICATION 2 and 3 allow, any other as wide as it is kept
 
--- a number of so many bits
+-- Tells whether a number has at most this many bits.
 abbrev pub bits : ℕ → ℕ → Bool
 bits wide n = ltb n (2 ^ wide)
 

@@ -16,21 +16,21 @@ use Rattle.log_lines.specs.declared.Word.the-variants.{Uncovered, Ahead,
 use Rattle.log_lines.specs.declared.Verdict.the-variants.{Hold, Move, Reacquire}
 use Rattle.log_lines.specs.declared.Trigger.the-variants.{Edge, Lost, Jump, Seam}
 
--- the text stands in `after` from `at` up to `end`; the rest is as before
+-- `after` holds the text from `at` up to `end`, and is otherwise as before.
 pub record Put (before : List ℕ) (at : ℕ) (text after : List ℕ) (end : ℕ) : Type 0 where
   pub bytes : after ≡ sets before at text
   pub place : end ≡ at + length text
 
--- ---- a guess at the line that a text may be: the sum of the bytes that are no digits tells its form, its numbers the rest
+-- ---- a guess at the line that a text may be: the sum of the bytes that are not digits tells its form, and its numbers tell the rest
 
 abbrev pub isDigit : ℕ → Bool
 isDigit byte = both (leb 48 byte) (ltb byte 58)
 
--- v with the digit d after it, or 0 where that has more than 64 bits
+-- Appends the digit d to v; gives 0 if that has more than 64 bits.
 abbrev pub shifted : ℕ → ℕ → ℕ
 shifted v d = pick (ltb (v * 10 + d) (2 ^ 64)) (v * 10 + d) 0
 
--- a digit goes on with the number that it stands in, or starts the next
+-- A digit continues the number that it is part of, or starts the next.
 abbrev pub afterDigit : Seen → ℕ → Seen
 afterDigit s d = pick (s .inside)
     (record { shape = s .shape; a = s .a; b = s .b; c = shifted (s .c) d; inside = true })
@@ -50,7 +50,7 @@ seenIn text = foldl afterByte nothing text
 abbrev pub low : ℕ → ℕ → ℕ
 low wide n = n % 2 ^ wide
 
--- whether the text has this shape: `words` is such a text without its numbers
+-- Tells whether the text has this shape: `words` is such a text without its numbers.
 abbrev pub like : Seen → String → Bool
 like s words = eqb (s .shape) (foldl _+_ 0 (ascii words))
 

@@ -1,4 +1,4 @@
-// The lines of a replay log, written and read.
+// Writes and reads the lines of a replay log.
 ghost use mathlib.Core.Path.{_≡_};
 ghost use mathlib.Core.List.{_++_};
 ghost use Prim.Native.Nat.{_+_, _%_, _^_, _≤_, _<_};
@@ -77,8 +77,8 @@ fn digit(n: u64) -> u8
     48 + n as u8
 }
 
-// Each `put` writes a text into out from at on, and answers the place past it.
-fn put(out: &mut [u8], at: usize, text: &[u8]) -> usize
+// Each `put` writes a text into out from at on, and answers the place after it.
+pub fn put(out: &mut [u8], at: usize, text: &[u8]) -> usize
     requires { ⌜ at + length (now text) ≤ length (now out) ⌝ }
     ensures { λ r. ⌜ Put (now (out .entry)) at (now (text .entry)) (now (out .exit)) r ⌝ }
 {
@@ -103,8 +103,8 @@ fn put_decimal(out: &mut [u8], at: usize, n: u64) -> usize
     last + 1
 }
 
-// Words and the number after them.
-fn put_number(out: &mut [u8], at: usize, words: &[u8], n: u64) -> usize
+// Writes words and the number after them.
+pub fn put_number(out: &mut [u8], at: usize, words: &[u8], n: u64) -> usize
     requires { ⌜ at + length (now words) + 20 ≤ length (now out) ⌝ }
     ensures { λ r. ⌜ Put (now (out .entry)) at (now (words .entry) ++ decimal n) (now (out .exit)) r ⌝ }
 {
@@ -112,8 +112,8 @@ fn put_number(out: &mut [u8], at: usize, words: &[u8], n: u64) -> usize
     put_decimal(out, next, n)
 }
 
-// The same twice.
-fn put_numbers(out: &mut [u8], at: usize, words: &[u8], m: u64, more: &[u8], n: u64) -> usize
+// Does the same twice.
+pub fn put_numbers(out: &mut [u8], at: usize, words: &[u8], m: u64, more: &[u8], n: u64) -> usize
     requires { ⌜ at + length (now words) + 20 + length (now more) + 20 ≤ length (now out) ⌝ }
     ensures { λ r. ⌜ Put (now (out .entry)) at (now (words .entry) ++ decimal m ++ now (more .entry) ++ decimal n) (now (out .exit)) r ⌝ }
 {
@@ -184,8 +184,8 @@ fn put_cycle(out: &mut [u8], cycle: u64, verdict: Verdict) -> usize
     put_verdict(out, next, verdict)
 }
 
-// No line is longer than 75 bytes.
-fn put_line(out: &mut [u8], line: Line) -> usize
+// Writes a line. No line is longer than 75 bytes.
+pub fn put_line(out: &mut [u8], line: Line) -> usize
     requires { ⌜ 75 ≤ length (now out) ⌝ }
     ensures { λ r. ⌜ Put (now (out .entry)) 0 (textOf line) (now (out .exit)) r ⌝ }
 {
@@ -235,7 +235,7 @@ pub fn write_line(line: Line, out: &mut [u8]) -> Written
     Written::Bytes(n)
 }
 
-// What a text shows to the eye that guesses its line: the sum of the bytes that are no digits, its last three numbers, and whether it ends
+// What the guess at a text's line needs: the sum of the bytes that are not digits, its last three numbers, and whether it ends
 // inside the third.
 struct Seen {
     shape: u64,
@@ -323,7 +323,7 @@ fn low8(n: u64) -> u8
     (n % 256) as u8
 }
 
-// The only line that may have such a text. `read_line` writes it again, which finds every wrong guess out.
+// Gives the only line that can have such a text. `read_line` writes that line and compares, which exposes every wrong guess.
 fn guess(s: Seen) -> Line
     ensures { λ r. ⌜ r ≡ guessed s ⌝ }
 {
@@ -402,7 +402,7 @@ fn in_range(line: Line) -> bool
     }
 }
 
-// The line whose text this is.
+// Finds the line that has this text.
 pub fn read_line(text: &[u8]) -> Read
     ensures { λ r. ⌜ Reads (now (text .entry)) r ⌝ }
 {

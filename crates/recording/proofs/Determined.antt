@@ -4,7 +4,8 @@ use contract.Lifetimes.{Lfts}
 use denote.Ref.{now}
 use denote.Triple.Clauses.{AtExit}
 use borrow.Fn.Kinds.{Dens, resT, endedOf}
-use Rattle.answers.proofs.Once.{Determined, once}
+use Rattle.answers.specs.Once.{Determined}
+use Rattle.answers.proofs.Once.{once}
 use Rattle.recording.proofs.open.Kinds as open-kinds
 use Rattle.recording.proofs.open.Reads as open-reads
 use Rattle.recording.proofs.event_at.Kinds as event-kinds
@@ -15,8 +16,6 @@ use Rattle.recording.proofs.all_used.Kinds as all-used-kinds
 use Rattle.recording.proofs.all_used.Reads as all-used-reads
 use Rattle.recording.proofs.samples.Kinds as samples-kinds
 use Rattle.recording.proofs.samples.Reads as samples-reads
-use Rattle.recording.proofs.sample.Kinds as sample-kinds
-use Rattle.recording.proofs.sample.Reads as sample-reads
 use Rattle.recording.proofs.decode.Kinds as decode-kinds
 use Rattle.recording.proofs.decode.Reads as decode-reads
 
@@ -36,9 +35,6 @@ all-used-once κs a v w x y p q = once p q
 pub samples-once : (κs : Lfts 1) (a : Dens κs samples-kinds.ps) (v w : resT samples-kinds.r κs .Denot) (x y : AtExit (endedOf 1 samples-kinds.ps samples-kinds.r) κs)
     → samples-reads.Post κs a v x → samples-reads.Post κs a w y → now v ≡ now w
 samples-once κs a v w x y p q = once p q
-
-pub sample-once : Determined 0 sample-kinds.ps sample-kinds.r sample-reads.Post
-sample-once κs a v w x y p q = once p q
 
 pub decode-once : Determined 2 decode-kinds.ps decode-kinds.r decode-reads.Post
 decode-once κs a v w x y p q = once (p .0) (q .0)

@@ -1,16 +1,14 @@
 -- Laws of little-endian numbers and of samples.
 use mathlib.Core.Path.{_≡_, refl, sym, ap, _∙_}
-use mathlib.Core.Bool.{Bool, true, false, not, false≢true}
+use mathlib.Core.Bool.{Bool, true}
 use mathlib.Core.List.{List}
-use Prim.Native.Nat.{ℕ, suc, _+_, _*_, _%_, _/_, _<_, _≤_, min}
+use Prim.Native.Nat.{ℕ, suc, _+_, _*_, _/_, _<_, _≤_, min}
 use native.Mathlib.Numerals.{add-one}
 use native.Mathlib.Omega.{arith}
-use lib.Dec.{T}
 use lib.ListN.{length, take, drop, getD, set, take-append-drop}
 use lib.Seq.{drop-cons, drop-drop, take-suc-set, drop-set-lt}
-use lib.Ieee.{Float, nan, inf, fin, binary32, ofBits, nanBits, isNan}
-use lib.Ieee.Bits.{nanBits-is, nanBits-above}
-use borrow.Author.Tests.{lt-ltb, le-ltb, leb-true}
+use lib.Ieee.{Float}
+use borrow.Author.Tests.{leb-true}
 use Rattle.answers.proofs.Passed.{both-true}
 use Rattle.recording.specs.Bytes.{numberAt}
 use Rattle.recording.specs.Samples.{samplesIn, sampleAt, decodedCount, decoded, supplied}
@@ -40,19 +38,6 @@ number-eight s at h =
     rw (number-cons 7 s at (omega arith), number-cons 6 s (at + 1) (omega arith), a, number-cons 5 s (at + 2) (omega arith), b, number-cons 4 s (at + 3) (omega arith), d, number-four s at (omega arith)) (omega arith)
 
 -- ---- samples
-
-is-nan : (x : Float) → isNan x ≡ true → x ≡ nan
-unfolding isNan
-is-nan nan e = refl
-is-nan (inf s) e = absurd (false≢true e)
-is-nan (fin s m k) e = absurd (false≢true e)
-
--- a pattern whose size is above that of the infinite is a NaN's
-pub above-nan : (n : ℕ) → 2139095040 < n % 2147483648 → nan ≡ ofBits binary32 n
-above-nan n h = sym (is-nan (ofBits binary32 n) (sym (nanBits-is binary32 n) ∙ nanBits-above binary32 n ∙ lt-ltb 2139095040 (n % 2147483648) h))
-
-pub below-nan : (n : ℕ) → n % 2147483648 ≤ 2139095040 → T (not (nanBits binary32 n))
-below-nan n h = rw (nanBits-above binary32 n, le-ltb 2139095040 (n % 2147483648) h) tt
 
 -- one sample more
 pub decode-more : (s : List ℕ) (out : List Float) (i : ℕ) (x : Float) → i < length out → take i out ≡ samplesIn s i → x ≡ sampleAt s i → take (i + 1) (set out i x) ≡ samplesIn s (i + 1)

@@ -1,4 +1,4 @@
--- Document 01, "Replay": the header and the events of a recording.
+-- SPECIFICATION 12: the header and the events of a recording.
 use Prim.Native.Nat.{ℕ, _+_, _^_}
 use mathlib.Core.Bool.{Bool, true}
 use mathlib.Core.List.{List, _++_}
@@ -23,31 +23,31 @@ u32At s at = numberAt 4 s at
 abbrev pub headerAt : List ℕ → Header
 headerAt s = record { rate = u32At s 0; ceiling = u32At s 4; events = u32At s 8; far = u32At s 16; near = u32At s 20 }
 
--- bad if short, if the offset of the events is not 24, or if rate or ceiling is outside the table
+-- A header is bad if it is short, if the offset of the events is not 24, or if rate or ceiling is outside the table.
 unfoldable pub opened : List ℕ → Start
 opened s =
     pick (both (leb 24 (length s)) (both (eqb (u32At s 12) 24) (both (allowedRate (u32At s 0)) (allowedCeiling (u32At s 4)))))
     (Opened (headerAt s))
     BadHeader
 
--- a header as bytes
+-- Gives a header as bytes.
 abbrev pub headerBytes : Header → List ℕ
 headerBytes h = bytes 4 (h .rate) ++ bytes 4 (h .ceiling) ++ bytes 4 (h .events) ++ bytes 4 24 ++ bytes 4 (h .far) ++ bytes 4 (h .near)
 
 -- ---- an event: kind, count and number
 
--- samples in one event
+-- One event has 1 to 4,096 samples.
 abbrev pub someSamples : ℕ → Bool
 someSamples count = within 1 4096 count
 
--- unused fields are 0
+-- An unused field is 0.
 abbrev pub unused : ℕ → Bool
 unused field = eqb field 0
 
 abbrev pub onlyIf : Bool → Event → Entry
 onlyIf rule event = pick rule (Good event) Bad
 
--- bad if the kind is unknown, the count is none that the kind allows, or a field that the kind leaves unused is not 0
+-- An event is bad if its kind is unknown, if the kind does not allow its count, or if a field that the kind leaves unused is not 0.
 unfoldable pub eventOf : ℕ → ℕ → ℕ → Entry
 eventOf kind count number =
     pick (eqb kind 1) (onlyIf (both (someSamples count) (unused number)) (Far count)) (
@@ -60,12 +60,12 @@ eventOf kind count number =
     pick (eqb kind 8) (onlyIf (both (unused count) (unused number)) Discontinuity)
     Bad)))))))
 
--- the event in the 16 bytes of s from index `at` on; bad if they are not all there
+-- Reads the event in the 16 bytes of s from index `at` on. It is bad if they are not all there.
 unfoldable pub eventAt : List ℕ → ℕ → Entry
 eventAt s at =
     pick (leb (at + 16) (length s)) (eventOf (u32At s at) (u32At s (at + 4)) (numberAt 8 s (at + 8))) Bad
 
--- an event as bytes
+-- Give the kind, the count and the number of an event.
 abbrev pub kindOf : Event → ℕ
 kindOf (Far count) = 1
 kindOf (Near count first) = 2
@@ -96,7 +96,7 @@ numberOf (Interior alignment delay) = delay
 numberOf (Edge alignment delay) = delay
 numberOf Discontinuity = 0
 
--- what an event's fields can be
+-- Tells what an event's fields can be.
 abbrev pub allowed : Event → Bool
 allowed (Far count) = someSamples count
 allowed (Near count first) = both (someSamples count) (ltb first (2 ^ 64))

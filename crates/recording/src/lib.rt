@@ -1,7 +1,6 @@
-// A recording: its header, its events and their samples.
+// Reads a recording: its header, its events and their samples.
 ghost use mathlib.Core.Path.{_≡_};
-ghost use Prim.Native.Nat.{_+_, _^_, _≤_, _<_, min};
-ghost use lib.Ieee.{binary32, ofBits};
+ghost use Prim.Native.Nat.{_+_, _^_, _≤_, _<_};
 ghost use lib.ListN.{length, getD};
 ghost use Rattle.recording.specs.Bytes.{numberAt};
 ghost use Rattle.recording.specs.Recording;
@@ -70,7 +69,7 @@ fn byte(s: &[u8], at: usize) -> u64
     s[at] as u64
 }
 
-// The number in four bytes.
+// Reads the number in four bytes.
 fn four(s: &[u8], at: usize) -> u64
     requires { ⌜ at + 4 ≤ length (now s) ⌝ }
     ensures { λ r. ⌜ (r ≡ numberAt 4 (now (s .entry)) at) × (r < 2 ^ 32) ⌝ }
@@ -92,7 +91,7 @@ fn u64_at(s: &[u8], at: usize) -> u64
     four(s, at) + 4294967296 * four(s, at + 4)
 }
 
-// The header at the start of the event input.
+// Reads the header at the start of the event input.
 pub fn open(s: &[u8]) -> Start
     ensures { λ r. ⌜ r ≡ opened (now (s .entry)) ⌝ }
 {
@@ -128,14 +127,14 @@ fn unused(count: u32, number: u64) -> bool
     number == 0
 }
 
-// Samples in one event.
+// Tells whether one event may have this many samples.
 fn some_samples(count: u32) -> bool
     ensures { λ r. ⌜ r ≡ someSamples count ⌝ }
 {
     answers::within(1, 4096, count)
 }
 
-// Kind 1 leaves the number unused.
+// Reads an event of kind 1, which leaves the number unused.
 fn far_event(count: u32, number: u64) -> Entry
     ensures { λ r. ⌜ r ≡ onlyIf (both (someSamples count) (Recording.unused number)) (Event.Far count) ⌝ }
 {
@@ -148,7 +147,7 @@ fn far_event(count: u32, number: u64) -> Entry
     Entry::Good(Event::Far { count })
 }
 
-// Kinds 3, 4, 5 and 8 leave both fields unused.
+// Reads an event of kind 3, 4, 5 or 8, which leaves both fields unused.
 fn plain_event(count: u32, number: u64, event: Event) -> Entry
     ensures { λ r. ⌜ r ≡ onlyIf (both (Recording.unused count) (Recording.unused number)) event ⌝ }
 {
@@ -188,7 +187,7 @@ fn event_of(kind: u32, count: u32, number: u64) -> Entry
     }
 }
 
-// The event in the 16 bytes of s from at on.
+// Reads the event in the 16 bytes of s from at on.
 pub fn event_at(s: &[u8], at: usize) -> Entry
     ensures { λ r. ⌜ r ≡ eventAt (now (s .entry)) at ⌝ }
 {
@@ -215,7 +214,7 @@ fn supplied(used: u64, count: u32, total: u32, length: u64) -> bool
     4 * samples <= length
 }
 
-// Whether the totals and the bytes of the two sample inputs allow the event, and what is used after it.
+// Tells whether the totals and the bytes of the two sample inputs allow the event, and what is used after it.
 pub fn admit(header: Header, lengths: Lengths, used: Used, event: Event) -> Admission
     ensures { λ r. ⌜ r ≡ admitted header lengths used event ⌝ }
 {
@@ -255,7 +254,7 @@ pub fn admit(header: Header, lengths: Lengths, used: Used, event: Event) -> Admi
     }
 }
 
-// Whether the events have used every sample that the header announces. Where they have not, the log says `bad totals`.
+// Tells whether the events have used every sample that the header announces. If they have not, the log says `bad totals`.
 pub fn all_used(header: Header, used: Used) -> bool
     ensures { λ r. ⌜ r ≡ allUsed header used ⌝ }
 {
@@ -277,7 +276,7 @@ fn part(piece: &[f32], at: usize, count: u32) -> &[f32]
     &piece[0..0]
 }
 
-// The samples of an event: a part of the far or of the near piece, of which f and n samples are used already.
+// Gives the samples of an event: a part of the far or of the near piece, of which f and n samples have been used already.
 pub fn samples<'a>(far: &'a [f32], near: &'a [f32], event: Event, f: usize, n: usize) -> &'a [f32]
     ensures { λ r. ⌜ now r ≡ samplesOf (now (far .entry)) (now (near .entry)) event f n ⌝ }
 {
@@ -299,31 +298,14 @@ pub fn samples<'a>(far: &'a [f32], near: &'a [f32], event: Event, f: usize, n: u
     }
 }
 
-// The f32 of a bit pattern. Every NaN's pattern is a NaN.
-pub fn sample(bits: u32) -> f32
-    ensures { λ r. ⌜ r ≡ ofBits binary32 bits ⌝ }
-{
-    let size = bits % 0x8000_0000;
-    if 0x7f80_0000 < size {
-        return 0.0 / 0.0;
-    }
-    f32::from_bits(bits)
-}
-
-fn less(a: usize, b: usize) -> usize
-    ensures { λ r. ⌜ r ≡ min a b ⌝ }
-{
-    if a < b { a } else { b }
-}
-
 // Fills out from its start with the samples that the bytes s hold, and answers how many.
 pub fn decode(s: &[u8], out: &mut [f32]) -> usize
     ensures { λ r. ⌜ (r ≡ decodedCount (now (s .entry)) (now (out .entry))) × (now (out .exit) ≡ decoded (now (s .entry)) (now (out .entry))) ⌝ }
 {
-    let n = less(out.len(), s.len() / 4);
+    let n = answers::smaller(out.len() as u64, (s.len() / 4) as u64) as usize;
     let mut i = 0;
     while i < n {
-        out[i] = sample(u32_at(s, 4 * i));
+        out[i] = floats::bits::float32(u32_at(s, 4 * i));
         i += 1;
     }
     n

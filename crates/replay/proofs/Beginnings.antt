@@ -19,7 +19,7 @@ use Rattle.scan_calls.proofs.Chains.{turned-down, accepted, first, second}
 use Rattle.tracker.specs.Tracker.{made, fresh}
 use Rattle.recording.specs.declared.Header.{Header}
 use Rattle.replay.specs.Log.{newSession, clearBuffers}
-use Rattle.replay.specs.Library.{beginning, startRefusal, begins}
+use Rattle.replay.specs.Beginning.{beginning, startRefusal, begins}
 use Rattle.replay.specs.declared.Session.{Session}
 use Rattle.replay.specs.declared.Begun.the-variants as begun
 

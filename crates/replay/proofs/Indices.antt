@@ -18,11 +18,11 @@ use Rattle.answers.specs.Numbers.{limit, nextLongCount}
 use Rattle.answers.proofs.Refusals.{passed-both}
 use Rattle.scan.specs.Bins.{nearLen}
 use Rattle.scan.specs.State.{Buffers, finished, full, due, firstRefusals}
-use Rattle.scan.specs.Blocks.{dropped, gather}
-use Rattle.scan.specs.Calls.{NearPush, untaken, takenBy, nearRefusal, pushedNear}
+use Rattle.scan.specs.Blocks.{dropped, gather, heldAt}
+use Rattle.scan.specs.Calls.{NearPush, withNear, untaken, takenBy, nearRefusal, pushedNear}
 use Rattle.scan.specs.declared.Scan.{Scan}
 use Rattle.scan.specs.declared.Taking.the-variants as taking
-use Rattle.replay.specs.Events.{Play, goesOn, after, afterTaking, withScan, samplePlayed, nearPlayed}
+use Rattle.replay.specs.Events.{Play, goesOn, continuedBy, afterTaking, withScan, samplePlayed, nearPlayed}
 use Rattle.scan.specs.Steps.{withLevels}
 use Rattle.replay.specs.declared.Session.{Session}
 
@@ -39,7 +39,7 @@ refused-large : (s : Scan) (levels : List Float) (x : Float) (index : ℕ) → l
 unfolding nearRefusal
 refused-large s levels x index h =
     ap (λ (n : ℕ). before (firstRefusals s (eqb (length levels) (nearLen (due s)))) (pick (finished (s .verdict)) none (require (not (full (s .geometry) (s .near))) frameWaits n)))
-    (pick-false (ltb index limit) (require (either (dropped (s .geometry) (s .near) index) (finite x)) notFinite none) tooLarge (le-ltb index limit h))
+    (pick-false (ltb index limit) (require (either (dropped (s .geometry) (heldAt (s .near) index) index) (finite x)) notFinite none) tooLarge (le-ltb index limit h))
 
 passed-finished : (done room : Bool) → pick done none (require room frameWaits tooLarge) ≡ 0 → done ≡ true
 unfolding pick
@@ -63,7 +63,8 @@ pushedLarge s levels = ifRefused (largeRefusal s levels) (untaken s levels (taki
 pushed-large : (s : Scan) (levels : List Float) (x : Float) (index : ℕ) → limit ≤ index → pushedNear s levels x index ≡ pushedLarge s levels
 unfolding pushedNear
 pushed-large s levels x index h =
-    let rest = pick (dropped (s .geometry) (s .near) index) (untaken s levels taking.Dropped) (takenBy s (gather (s .geometry) (record { near = s .near; levels = levels }) x index)) in
+    let m = heldAt (s .near) index in
+    let rest = pick (dropped (s .geometry) m index) (untaken (withNear s m) levels taking.Dropped) (takenBy s (gather (s .geometry) (record { near = m; levels = levels }) x index)) in
     ap (λ (n : ℕ). ifRefused n (untaken s levels (taking.Refused n)) (pick (finished (s .verdict)) (untaken s levels taking.Ignored) rest)) (refused-large s levels x index h)
     ∙ settled (eqb (largeRefusal s levels) 0) (finished (s .verdict)) (untaken s levels taking.Ignored) rest (untaken s levels (taking.Refused (largeRefusal s levels)))
     (λ (t : eqb (largeRefusal s levels) 0 ≡ true). large-finished s levels (eqb-true _ _ t))
@@ -83,7 +84,7 @@ unfoldable pub countedOn : ℕ → Session → Buffers → List Float → ℕ �
 countedOn e s b [] index = goesOn [] s b
 countedOn e s b (x ∷ xs) index =
     let p = samplePlayed e s b x index in
-    pick (p .ends) p (after p (countedOn e (p .session) (p .buffers) xs (index + 1)))
+    pick (p .ends) p (continuedBy p (countedOn e (p .session) (p .buffers) xs (index + 1)))
 
 abbrev kept : ℕ → ℕ
 kept index = min index (2 ^ 64 - 1)
@@ -102,9 +103,9 @@ unfolding nearPlayed countedOn
 near-kept e s b [] index = refl
 near-kept e s b (x ∷ xs) index =
     let p = samplePlayed e s b x index in
-    ap (λ (q : Play). pick (q .ends) q (after q (nearPlayed e (q .session) (q .buffers) xs (nextLongCount (kept index))))) (sample-kept e s b x index)
-    ∙ ap (λ (n : ℕ). pick (p .ends) p (after p (nearPlayed e (p .session) (p .buffers) xs n))) (next-kept index)
-    ∙ ap (λ (q : Play). pick (p .ends) p (after p q)) (near-kept e (p .session) (p .buffers) xs (index + 1))
+    ap (λ (q : Play). pick (q .ends) q (continuedBy q (nearPlayed e (q .session) (q .buffers) xs (nextLongCount (kept index))))) (sample-kept e s b x index)
+    ∙ ap (λ (n : ℕ). pick (p .ends) p (continuedBy p (nearPlayed e (p .session) (p .buffers) xs n))) (next-kept index)
+    ∙ ap (λ (q : Play). pick (p .ends) p (continuedBy p q)) (near-kept e (p .session) (p .buffers) xs (index + 1))
 
 pub near-counts-on : (e : ℕ) (s : Session) (b : Buffers) (xs : List Float) (first : ℕ) → first < 2 ^ 64 → nearPlayed e s b xs first ≡ countedOn e s b xs first
 near-counts-on e s b xs first h =

@@ -1,4 +1,4 @@
--- Document 01, "Replay": what one event does to a session and to the lent buffers, and the lines that it logs.
+-- SPECIFICATION 12: what one event does to a session and to the lent buffers, and the lines that it logs.
 use Prim.Native.Nat.{ℕ}
 use mathlib.Core.Bool.{Bool, true, false}
 use mathlib.Core.List.{List, [], _∷_, _++_}
@@ -33,7 +33,7 @@ use Rattle.recording.specs.declared.Event.{Event}
 use Rattle.recording.specs.declared.Event.the-variants as event
 use Rattle.recording.specs.declared.Entry.{Entry}
 use Rattle.recording.specs.declared.Entry.the-variants as entry
-use Rattle.replay.specs.Words.{wordOf, cycleLine, cyclesAfter, changeLines, answerLines}
+use Rattle.replay.specs.Words.{wordOf, cycleLine, cyclesAfter, changeLines}
 use Rattle.replay.specs.declared.Session.{Session}
 
 -- the lines that were logged, what is left behind, and whether nothing more of this event, or of the log, is to come
@@ -72,7 +72,7 @@ farPlayed e s b p = goesOn (changeLines e (p .changed .answer)) (withScan s (p .
 
 abbrev pub afterScore : ℕ → Session → Scan → Buffers → Scoring → Play
 afterScore e s scan b (scoring.Refused number) = stops (line.Refused e number) (withScan s scan) b
-afterScore e s scan b (scoring.Frame f) = goesOn (line.Frame (s .frames) (wordOf f) ∷ []) (withFrame s scan) b
+afterScore e s scan b (scoring.Frame f products) = goesOn (line.Frame (s .frames) (wordOf f) ∷ []) (withFrame s scan) b
 
 unfoldable pub scorePlayed : ℕ → Session → Buffers → Play
 scorePlayed e s b =
@@ -92,15 +92,15 @@ samplePlayed e s b x index =
     afterTaking e (withScan s (p .took .scan)) (withLevels b (p .levels)) (p .took .answer)
 
 -- a later play after an earlier one
-abbrev pub after : Play → Play → Play
-after earlier p = record { lines = earlier .lines ++ p .lines; session = p .session; buffers = p .buffers; ends = p .ends }
+abbrev pub continuedBy : Play → Play → Play
+continuedBy earlier p = record { lines = earlier .lines ++ p .lines; session = p .session; buffers = p .buffers; ends = p .ends }
 
 -- Number = first index. An index of 2^62 or more is judged the same whatever it is, so that it may stay at the largest number of 64 bits.
 unfoldable pub nearPlayed : ℕ → Session → Buffers → List Float → ℕ → Play
 nearPlayed e s b [] index = goesOn [] s b
 nearPlayed e s b (x ∷ xs) index =
     let p = samplePlayed e s b x index in
-    pick (p .ends) p (after p (nearPlayed e (p .session) (p .buffers) xs (nextLongCount index)))
+    pick (p .ends) p (continuedBy p (nearPlayed e (p .session) (p .buffers) xs (nextLongCount index)))
 
 -- the refusal drops the rest of that event, and the log goes on
 abbrev pub logGoesOn : Play → Play
@@ -123,7 +123,7 @@ cyclePlayed e s b alignment outcome =
 unfoldable pub seamPlayed : ℕ → Session → Buffers → Play
 seamPlayed e s b =
     let c = seamed (s .tracker) in
-    goesOn (answerLines e (c .answer)) (withTracker s (c .tracker) (s .cycles)) b
+    goesOn (changeLines e (c .answer)) (withTracker s (c .tracker) (s .cycles)) b
 
 -- ---- any event, handed its samples
 

@@ -1,6 +1,4 @@
 pub mod Words
 pub mod Events
 pub mod Log
-pub mod Telling
-pub mod Library
-pub mod Hosts
+pub mod Beginning

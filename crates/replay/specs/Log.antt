@@ -1,10 +1,9 @@
--- Document 01, "Replay": the log of a recording, from the bytes of its three inputs.
+-- SPECIFICATION 12: the log of a recording, from the bytes of its three inputs.
 use Prim.Native.Nat.{ℕ, zero, suc, _+_, _*_, _/_}
 use mathlib.Core.List.{List, [], _∷_, _++_}
-use lib.Dec.{eqb}
 use lib.ListN.{length}
 use lib.Ieee.{Float}
-use Rattle.answers.specs.Pick.{pick, both}
+use Rattle.answers.specs.Pick.{pick}
 use Rattle.folds.specs.Sums.{zeros}
 use Rattle.scan.specs.Bins.{geometryOf, fullSlack, envelopeLen, nearLen, windowLen, prefixLen, lags}
 use Rattle.scan.specs.State.{Buffers, newScan}
@@ -14,7 +13,7 @@ use Rattle.log_lines.specs.Lines.{textOf}
 use Rattle.log_lines.specs.declared.Line.{Line}
 use Rattle.log_lines.specs.declared.Line.the-variants as line
 use Rattle.recording.specs.Recording.{opened, eventAt}
-use Rattle.recording.specs.Samples.{samplesIn, samplesOf, usedUp}
+use Rattle.recording.specs.Samples.{samplesIn, samplesOf, usedUp, allUsed}
 use Rattle.recording.specs.declared.Header.{Header}
 use Rattle.recording.specs.declared.Start.{Start}
 use Rattle.recording.specs.declared.Start.the-variants as start
@@ -59,7 +58,7 @@ samplesFor i u (entry.Good event) = samplesOf (i .far) (i .near) event (u .far) 
 
 -- `bad totals` instead of the end line, if the events use fewer samples than a total
 unfoldable pub closing : Header → Session → Line
-closing h s = pick (both (eqb (s .used .far) (h .far)) (eqb (s .used .near) (h .near))) (line.End (s .frames) (s .cycles)) line.BadTotals
+closing h s = pick (allUsed h (s .used)) (line.End (s .frames) (s .cycles)) line.BadTotals
 
 -- event number e is in the 16 bytes from 24 + 16 e on
 abbrev pub eventNumber : List ℕ → ℕ → Entry

@@ -1,14 +1,12 @@
--- Document 01, "Replay": how the answers of scan and tracker read in a log.
+-- SPECIFICATION 12: how the answers of scan and tracker read in a log.
 use Prim.Native.Nat.{ℕ}
 use mathlib.Core.List.{List, [], _∷_}
 use lib.Ieee.{binary32, binary64, toBits}
 use Rattle.answers.specs.Numbers.{nextLongCount}
-use Rattle.scan.specs.declared.Change.{Change}
-use Rattle.scan.specs.declared.Change.the-variants as change
+use Rattle.answers.specs.declared.Change.{Change}
+use Rattle.answers.specs.declared.Change.the-variants as change
 use Rattle.scan.specs.declared.Frame.{Frame}
 use Rattle.scan.specs.declared.Frame.the-variants as frame
-use Rattle.tracker.specs.declared.Answer.{Answer}
-use Rattle.tracker.specs.declared.Answer.the-variants as answer
 use Rattle.tracker.specs.declared.Trigger.{Trigger}
 use Rattle.tracker.specs.declared.Trigger.the-variants as trigger
 use Rattle.tracker.specs.declared.Verdict.{Verdict}
@@ -32,6 +30,18 @@ wordOf frame.Weak = word.Weak
 wordOf frame.Ceiling = word.Ceiling
 wordOf frame.Crowded = word.Crowded
 wordOf (frame.Region r) = word.Region (r .delay .0) (toBits binary64 (r .correlation))
+
+-- what the word of a frame line tells: the place of the word in the list of frame words, and the numbers behind it. It is what the frame tells: `word-tells`.
+abbrev pub wordTold : Word → List ℕ
+wordTold word.Uncovered = 1 ∷ []
+wordTold word.Ahead = 2 ∷ []
+wordTold word.Quiet = 3 ∷ []
+wordTold word.Flat = 4 ∷ []
+wordTold (word.Banked peak) = 5 ∷ peak ∷ []
+wordTold word.Weak = 6 ∷ []
+wordTold word.Ceiling = 7 ∷ []
+wordTold word.Crowded = 8 ∷ []
+wordTold (word.Region delay correlation) = 9 ∷ delay ∷ correlation ∷ []
 
 unfoldable pub triggerOf : Trigger → logged.Trigger
 triggerOf trigger.Edge = loggedTrigger.Edge
@@ -57,7 +67,3 @@ cyclesAfter cycle (verdict.Reacquire trigger) = nextLongCount cycle
 unfoldable pub changeLines : ℕ → Change → List Line
 changeLines event (change.Refused number) = line.Refused event number ∷ []
 changeLines event change.Done = []
-
-unfoldable pub answerLines : ℕ → Answer → List Line
-answerLines event (answer.Refused number) = line.Refused event number ∷ []
-answerLines event answer.Done = []

@@ -10,7 +10,7 @@ ghost use Rattle.folds.specs.Sums.{zeros};
 ghost use Rattle.scan.specs.Bins.{inTable};
 ghost use Rattle.scan_score.specs.Observing.{lent};
 ghost use Rattle.replay.specs.Log.{newSession};
-ghost use Rattle.replay.specs.Library.{startRefusal};
+ghost use Rattle.replay.specs.Beginning.{startRefusal};
 
 // 1 or 2, and 0 for none.
 pub fn refusal(

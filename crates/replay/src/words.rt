@@ -1,31 +1,12 @@
 // How the answers of scan and tracker read in a log.
+use floats::bits;
 use log_lines::Line;
 use log_lines::Word;
 use scan::Frame;
 use tracker::Trigger;
 use tracker::Verdict;
 ghost use mathlib.Core.Path.{_≡_};
-ghost use lib.Ieee.{binary32, binary64, toBits};
 ghost use Rattle.replay.specs.Words.{wordOf, triggerOf, cycleLine, cyclesAfter};
-
-// A NaN has no bits in the logic; its pattern is written out.
-fn bits32(x: f32) -> u32
-    ensures { λ r. ⌜ r ≡ toBits binary32 x ⌝ }
-{
-    if x != x {
-        return 0x7fc0_0000;
-    }
-    f32::to_bits(x)
-}
-
-fn bits64(x: f64) -> u64
-    ensures { λ r. ⌜ r ≡ toBits binary64 x ⌝ }
-{
-    if x != x {
-        return 0x7ff8_0000_0000_0000;
-    }
-    f64::to_bits(x)
-}
 
 pub fn word_of(frame: Frame) -> Word
     ensures { λ r. ⌜ r ≡ wordOf frame ⌝ }
@@ -35,11 +16,11 @@ pub fn word_of(frame: Frame) -> Word
         Frame::Ahead => Word::Ahead,
         Frame::Quiet => Word::Quiet,
         Frame::Flat => Word::Flat,
-        Frame::Banked(peak) => Word::Banked(bits32(peak)),
+        Frame::Banked(peak) => Word::Banked(bits::pattern32(peak)),
         Frame::Weak => Word::Weak,
         Frame::Ceiling => Word::Ceiling,
         Frame::Crowded => Word::Crowded,
-        Frame::Region(region) => Word::Region(region.delay.0, bits64(region.correlation)),
+        Frame::Region(region) => Word::Region(region.delay.0, bits::pattern64(region.correlation)),
     }
 }
 

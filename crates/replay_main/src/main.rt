@@ -1,39 +1,9 @@
-// Replays a recording: `replay_main EVENTS FAR NEAR` writes its log to standard output.
-//
-// A Rattle program has no exit status. With a fourth word, which `./replay` gives, a replay that failed writes one byte to descriptor 3.
-ghost use Rattle.io.specs.Counts.{Counts};
-use feed::gather::Most;
-use feed::sink;
-use feed::whole::Outcome;
-use libc::STDERR_FILENO;
+// Replays a recording: `replay_main EVENTS FAR NEAR` writes its log to standard output. `./replay` is its front.
 use libc::STDOUT_FILENO;
-
-// What a failed replay says: the program, the file and errno's reason.
-fn fail(file: &[u8]) {
-    io::write_all(STDERR_FILENO, b"replay: ");
-    os::fail(file);
-}
-
-fn say(what: &[u8]) {
-    io::write_all(STDERR_FILENO, b"replay: ");
-    io::write_all(STDERR_FILENO, what);
-    io::write_all(STDERR_FILENO, b"\n");
-}
-
-// Opens a file, and sees that it can be read: a directory can be opened, but not read.
-fn open(path: &[u8]) -> i32 {
-    let fd = os::open_read(path);
-    if fd < 0 {
-        fail(path);
-        return fd;
-    }
-    let mut none = [0u8; 0];
-    if libc::read(fd, &mut none) < 0 {
-        fail(path);
-        return -1;
-    }
-    fd
-}
+use pipes::named;
+use pipes::told;
+use replay_host::Outcome;
+use replay_host::inputs::Most;
 
 fn whole_files() -> Most {
     Most {
@@ -43,88 +13,75 @@ fn whole_files() -> Most {
     }
 }
 
-// A reader that has gone away is no failure to speak of.
-fn fail_to_write() {
-    if os::errno() != libc::EPIPE {
-        fail(b"standard output");
-    }
-}
-
-fn fail_to_read(input: u8, events: &[u8], far: &[u8], near: &[u8]) {
+fn name_unread(input: u8, events: &[u8], far: &[u8], near: &[u8]) {
     match input {
-        1 => fail(events),
-        2 => fail(far),
-        _ => fail(near),
+        1 => named::fail(b"replay", events),
+        2 => named::fail(b"replay", far),
+        _ => named::fail(b"replay", near),
     }
 }
 
-// Whether the whole log was written. Where it was not, standard error says why.
-fn replayed(events: &[u8], far: &[u8], near: &[u8]) -> bool {
-    let e = open(events);
-    if e < 0 {
-        return false;
-    }
-    let f = open(far);
-    if f < 0 {
-        return false;
-    }
-    let n = open(near);
-    if n < 0 {
-        return false;
-    }
-    let to = sink::fresh(STDOUT_FILENO, false, libc::isatty(STDERR_FILENO) == 1);
-    let finished = feed::run(e, f, n, whole_files(), to);
-    let outcome = finished.outcome;
-    match outcome {
-        Outcome::Done => true,
-        Outcome::Unread(input) => {
-            fail_to_read(input, events, far, near);
-            false
-        }
-        Outcome::Unwritten => {
-            fail_to_write();
-            false
-        }
-        Outcome::Refused(_) => {
-            say(b"the library refused its buffers");
-            false
-        }
-    }
-}
-
-// Argument i, whole, at the start of path.
-fn argument(i: usize, path: &mut [u8]) -> usize
-    ensures { λ r. ⌜ Counts r (now (path .exit)) ⌝ }
-{
-    let n = os::arg(i, path);
-    if os::errno() != 0 {
-        say(b"a file's name is too long");
+// A reader that has gone away has had what it wanted.
+fn unwritten() -> u64 {
+    if told::unread() {
         return 0;
     }
-    n
+    named::fail(b"replay", b"standard output");
+    1
 }
 
-fn named() -> bool {
+// What the program ends with: 0, 1 where a file could not be read or written, which standard error names, or 4 where the log has a refusal or a `bad` line.
+fn status_of(outcome: Outcome, events: &[u8], far: &[u8], near: &[u8]) -> u64 {
+    match outcome {
+        Outcome::Done => 0,
+        Outcome::Amiss => 4,
+        Outcome::Unread(input) => {
+            name_unread(input, events, far, near);
+            1
+        }
+        Outcome::Unwritten => unwritten(),
+        Outcome::Broken => {
+            named::say(b"replay", b"the library's answer fits no recording");
+            1
+        }
+    }
+}
+
+fn replayed(events: &[u8], far: &[u8], near: &[u8]) -> u64 {
+    let e = named::open(b"replay", events);
+    if e < 0 {
+        return 1;
+    }
+    let f = named::open(b"replay", far);
+    if f < 0 {
+        return 1;
+    }
+    let n = named::open(b"replay", near);
+    if n < 0 {
+        return 1;
+    }
+    let outcome = replay_host::run(e, f, n, whole_files(), STDOUT_FILENO, told::watched());
+    status_of(outcome, events, far, near)
+}
+
+fn named_files() -> u64 {
     let mut events = io::buffer();
     let mut far = io::buffer();
     let mut near = io::buffer();
-    let e = argument(1, &mut events);
-    let f = argument(2, &mut far);
-    let n = argument(3, &mut near);
+    let e = named::argument(b"replay", 1, &mut events);
+    let f = named::argument(b"replay", 2, &mut far);
+    let n = named::argument(b"replay", 3, &mut near);
     replayed(&events[..e], &far[..f], &near[..n])
 }
 
 fn main() {
-    let words = os::arg_count();
-    if words < 4 {
-        say(b"usage: replay EVENTS FAR NEAR");
+    if os::arg_count() != 4 {
+        named::say(b"replay", b"three files make a recording: EVENTS FAR NEAR");
+        told::status(2);
         return;
     }
-    let good = named();
-    if good {
-        return;
-    }
-    if words == 5 {
-        io::write_all(3, b"1");
+    let status = named_files();
+    if status != 0 {
+        told::status(status);
     }
 }

@@ -11,11 +11,14 @@ use Rattle.answers.specs.Pick.{pick-true, pick-false, pick-case}
 use Rattle.answers.specs.Numbers.{nextLongCount}
 use Rattle.scan.specs.State.{Buffers}
 use Rattle.log_lines.specs.declared.Line.{Line}
-use Rattle.replay.specs.Events.{Play, goesOn, after, logGoesOn, samplePlayed, nearPlayed}
+use Rattle.replay.specs.Events.{Play, goesOn, continuedBy, logGoesOn, samplePlayed, nearPlayed}
 use Rattle.replay.specs.declared.Session.{Session}
-use Rattle.replay.proofs.Going.{behind}
 use Rattle.replay_stream.specs.Stream.{Cut, cut, none, nearCut}
 use Rattle.replay_stream.proofs.Plain.{One, sample-plain}
+
+-- a play, with the lines before it
+abbrev pub behind : List Line → Play → Play
+behind ls p = record { lines = ls ++ p .lines; session = p .session; buffers = p .buffers; ends = p .ends }
 
 pub record Cuts (e : ℕ) (s : Session) (b : Buffers) (xs : List Float) (index : ℕ) (c : Cut) : Type 0 where
   pub plays : logGoesOn (nearPlayed e s b xs index) ≡ behind (c .lines) (logGoesOn (nearPlayed e (c .session) (c .buffers) (c .left) (c .index)))
@@ -43,7 +46,7 @@ module _ (e : ℕ) (s : Session) (b : Buffers) (x : Float) (xs : List Float) (in
   refused : p .ends ≡ true → Cuts e s b (x ∷ xs) index (cut (p .lines) (p .session) (p .buffers) i [])
   unfolding nearPlayed
   refused t = record {
-    plays = ap logGoesOn (pick-true (p .ends) p (after p q) t) ∙ ap (λ (ls : List Line). goesOn ls (p .session) (p .buffers)) (sym (append-nil (p .lines)));
+    plays = ap logGoesOn (pick-true (p .ends) p (continuedBy p q) t) ∙ ap (λ (ls : List Line). goesOn ls (p .session) (p .buffers)) (sym (append-nil (p .lines)));
     one = sample-plain e s b x index .one;
     keeps = sample-plain e s b x index .keeps;
     passed = length (x ∷ xs);
@@ -55,7 +58,7 @@ module _ (e : ℕ) (s : Session) (b : Buffers) (x : Float) (xs : List Float) (in
   lined : p .ends ≡ false → none (p .lines) ≡ false → Cuts e s b (x ∷ xs) index (cut (p .lines) (p .session) (p .buffers) i xs)
   unfolding nearPlayed
   lined f l = record {
-    plays = ap logGoesOn (pick-false (p .ends) p (after p q) f);
+    plays = ap logGoesOn (pick-false (p .ends) p (continuedBy p q) f);
     one = sample-plain e s b x index .one;
     keeps = sample-plain e s b x index .keeps;
     passed = 1;
@@ -68,7 +71,7 @@ module _ (e : ℕ) (s : Session) (b : Buffers) (x : Float) (xs : List Float) (in
   unfolding nearPlayed
   quiet c f z r = record {
     plays =
-        ap logGoesOn (pick-false (p .ends) p (after p q) f)
+        ap logGoesOn (pick-false (p .ends) p (continuedBy p q) f)
         ∙ ap (λ (ls : List Line). goesOn (ls ++ q .lines) (q .session) (q .buffers)) z
         ∙ r .plays;
     one = r .one;

@@ -17,7 +17,7 @@ use Rattle.recording.specs.declared.Header.{Header}
 use Rattle.recording.specs.declared.Start.{Start}
 use Rattle.recording.specs.declared.Start.the-variants as start
 use Rattle.replay.specs.Log.{logOf, newSession, clearBuffers}
-use Rattle.replay.proofs.Whole.{accepts}
+use Rattle.replay.proofs.Ready.{accepts}
 use Rattle.replay_stream.specs.Stream.{Piece, short, Input, Entries, FarSide, NearSide}
 use Rattle.replay_stream.specs.Hosts.{Rest, rest, Front, linesOf, opens, Streams, unopened, streams, plenty, pieceOf}
 use Rattle.replay_stream.specs.Notes.{whole, notedOf}

@@ -10,11 +10,11 @@ use Rattle.log_lines.specs.declared.Line.{Line}
 use Rattle.recording.specs.Recording.{opened}
 use Rattle.recording.specs.declared.Header.{Header}
 use Rattle.recording.specs.declared.Start.the-variants as start
-use Rattle.replay.specs.Library.{beginning, begins}
+use Rattle.replay.specs.Beginning.{beginning, begins}
 use Rattle.replay.specs.Log.{logOf, newSession}
 use Rattle.replay.specs.declared.Session.{Session}
 use Rattle.replay.specs.declared.Begun.the-variants as begun
-use Rattle.replay.proofs.Whole.{ready-is}
+use Rattle.replay.proofs.Ready.{ready-is}
 use Rattle.replay_stream.specs.Stream.{Place, Hand, beyond, Input, Answer, Says, Wants, Over, Next, waits, turn, silent, onTop, turns, nextLine}
 use Rattle.replay_stream.specs.Hosts.{Rest, rest, unused, Fair, Call, Noted, noted, linesOf, Streamed, over, says, wants, opens}
 use Rattle.replay_stream.specs.Notes.{whole, noteOf, notes, notedOf}

@@ -7,22 +7,20 @@ use lib.Ieee.{Float}
 use Rattle.scan.specs.State.{Buffers}
 use Rattle.scan.specs.Calls.{pushedNear, observed}
 use Rattle.scan.specs.declared.Scan.{Scan}
-use Rattle.scan.specs.declared.Change.{Change}
-use Rattle.scan.specs.declared.Change.the-variants as change
+use Rattle.answers.specs.declared.Change.{Change}
+use Rattle.answers.specs.declared.Change.the-variants as change
 use Rattle.scan.specs.declared.Taking.{Taking}
 use Rattle.scan.specs.declared.Taking.the-variants as taking
 use Rattle.scan.specs.declared.Scoring.{Scoring}
 use Rattle.scan.specs.declared.Scoring.the-variants as scoring
 use Rattle.scan.specs.Bins.{fullSlack}
 use Rattle.scan.specs.Steps.{withLevels}
-use Rattle.tracker.specs.declared.Answer.{Answer}
-use Rattle.tracker.specs.declared.Answer.the-variants as answer
 use Rattle.log_lines.specs.declared.Line.{Line}
 use Rattle.recording.specs.declared.Used.{Used}
 use Rattle.recording.specs.declared.Event.{Event}
 use Rattle.recording.specs.declared.Event.the-variants as event
 use Rattle.recording.specs.declared.Entry.the-variants as entry
-use Rattle.replay.specs.Words.{changeLines, answerLines}
+use Rattle.replay.specs.Words.{changeLines}
 use Rattle.replay.specs.Events.{Play, withScan, afterScore, scorePlayed, afterTaking, samplePlayed, nearPlayed, cyclePlayed, seamPlayed, eventPlayed}
 use Rattle.replay.specs.declared.Session.{Session}
 use Rattle.replay_stream.specs.Stream as stream
@@ -47,7 +45,7 @@ pub record Plain (p : Play) (u : Used) : Type 0 where
 
 score-plain : (e : ℕ) (s : Session) (scan : Scan) (b : Buffers) (a : Scoring) → Plain (afterScore e s scan b a) (s .used)
 score-plain e s scan b (scoring.Refused number) = record { one = refl; keeps = refl }
-score-plain e s scan b (scoring.Frame f) = record { one = refl; keeps = refl }
+score-plain e s scan b (scoring.Frame f n) = record { one = refl; keeps = refl }
 
 taking-plain : (e : ℕ) (s : Session) (b : Buffers) (a : Taking) → Plain (afterTaking e s b a) (s .used)
 unfolding scorePlayed
@@ -72,11 +70,6 @@ unfolding changeLines
 change-one e (change.Refused number) = refl
 change-one e change.Done = refl
 
-answer-one : (e : ℕ) (a : Answer) → One (answerLines e a)
-unfolding answerLines
-answer-one e (answer.Refused number) = refl
-answer-one e answer.Done = refl
-
 module _ (e : ℕ) (s : Session) (b : Buffers) (hand : Hand) where
   pub event-plain : (k : Event) → Plain (eventPlayed e s b k (handed hand (needOf (entry.Good k)))) (s .used)
   unfolding eventPlayed nearPlayed cyclePlayed seamPlayed
@@ -87,7 +80,7 @@ module _ (e : ℕ) (s : Session) (b : Buffers) (hand : Hand) where
   event-plain event.Unconfident = record { one = refl; keeps = refl }
   event-plain (event.Interior alignment delay) = record { one = refl; keeps = refl }
   event-plain (event.Edge alignment delay) = record { one = refl; keeps = refl }
-  event-plain event.Discontinuity = record { one = answer-one e _; keeps = refl }
+  event-plain event.Discontinuity = record { one = change-one e _; keeps = refl }
 
 -- only a bad event ends a log
 pub event-goes : (e : ℕ) (s : Session) (b : Buffers) (k : Event) (xs : List Float) → eventPlayed e s b k xs .ends ≡ false

@@ -17,10 +17,10 @@ use Rattle.recording.specs.Recording.{opened, headerAt}
 use Rattle.recording.specs.declared.Header.{Header}
 use Rattle.recording.specs.declared.Start.the-variants as start
 use Rattle.replay.specs.Log.{inputs, linesFrom, started, logOf, newSession, clearBuffers}
-use Rattle.replay.specs.Library.{beginning, begins}
+use Rattle.replay.specs.Beginning.{beginning, begins}
 use Rattle.replay.specs.declared.Session.{Session}
 use Rattle.replay.specs.declared.Begun.the-variants as begun
-use Rattle.replay.proofs.Whole.{ready-is}
+use Rattle.replay.proofs.Ready.{ready-is}
 use Rattle.replay_stream.specs.Stream.{Opening, Place, Answer, Says, Wants, Over}
 use Rattle.replay_stream.specs.Hosts.{Rest, rest, unused, Call, Noted, linesOf, Streamed, over, says, wants, opens, Streams, unopened, streams}
 use Rattle.replay_stream.proofs.Fronts.{header-handed}

@@ -12,7 +12,7 @@ use Rattle.log_lines.specs.declared.Line.the-variants as line
 use Rattle.recording.specs.Recording.{opened}
 use Rattle.recording.specs.declared.Header.{Header}
 use Rattle.recording.specs.declared.Start.the-variants as start
-use Rattle.replay.specs.Library.{beginning, begins}
+use Rattle.replay.specs.Beginning.{beginning, begins}
 use Rattle.replay.specs.declared.Session.{Session}
 use Rattle.replay.specs.declared.Begun.the-variants as begun
 use Rattle.replay_stream.specs.Stream.{Opening, Place, Piece, Hand, Bytes, short, Input, Entries, FarSide, NearSide, Says, Wants, Over, Next, nextLine}

@@ -38,3 +38,17 @@ pub enum Answer {
     Wants(Input),
     Over,
 }
+
+// No byte comes behind those at hand.
+pub struct Ended {
+    pub events: bool,
+    pub far: bool,
+    pub near: bool,
+}
+
+// Where the stream stands, what is answered, and how many bytes of each input were used.
+pub struct Turned {
+    pub place: Place,
+    pub answer: Answer,
+    pub used: Bytes,
+}

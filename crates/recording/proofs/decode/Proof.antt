@@ -16,8 +16,8 @@ Inv-loop s out₀ n i₀ out i =
 abbrev μ-loop : tie.MeasureT-loop
 μ-loop s out₀ n i₀ out i = n - i
 
-less-requires : tie.Need-less-requires Inv-loop μ-loop
-less-requires c κs = search needs
+smaller-requires : tie.Need-smaller-requires Inv-loop μ-loop
+smaller-requires c κs = search needs
 
 loop-holds : tie.Need-loop-holds Inv-loop μ-loop
 unfolding samplesIn
@@ -29,8 +29,8 @@ mul-u32-at c = search needs
 u32-at-requires : tie.Need-u32-at-requires Inv-loop μ-loop
 u32-at-requires c κs = search needs
 
-sample-requires : tie.Need-sample-requires Inv-loop μ-loop
-sample-requires c κs = search needs
+float32-requires : tie.Need-float32-requires Inv-loop μ-loop
+float32-requires c κs = search needs
 
 mul-out : tie.Need-mul-out Inv-loop μ-loop
 mul-out c = search needs
@@ -50,7 +50,7 @@ loop-again c =
     let from = c .before .before .before .before .before .before .before .args in (
       omega arith,
       simp length-set (now .inv .1),
-      decode-more (from .s .now) _ _ _ (omega arith) (now .inv .2) (rw (c .before .u32-at .ensures) at (c .sample .ensures)),
+      decode-more (from .s .now) _ _ _ (omega arith) (now .inv .2) (rw (c .before .u32-at .ensures) at (c .float32 .ensures)),
       rest-more (now .out) (from .out .now) (now .i) _ (now .inv .3),
     )
 
@@ -61,7 +61,7 @@ returns : tie.Need-returns Inv-loop μ-loop
 returns c =
     let end = c .before .loop in
     let from = c .before .before .before .before .before .args in
-    decode-all (from .s .now) (end .out) (from .out .now) _ (end .i) (c .before .before .less .ensures) (end .inv .0) (c .loop-test .left) (end .inv .2) (end .inv .3)
+    decode-all (from .s .now) (end .out) (from .out .now) _ (end .i) (c .before .before .smaller .ensures) (end .inv .0) (c .loop-test .left) (end .inv .2) (end .inv .3)
 
 pub decode-spec : {M : Type 1} → statement M
 decode-spec =
@@ -69,11 +69,11 @@ decode-spec =
     (tie.spec
     Inv-loop
     μ-loop
-    less-requires
+    smaller-requires
     loop-holds
     mul-u32-at
     u32-at-requires
-    sample-requires
+    float32-requires
     mul-out
     slice-write-out
     add-i

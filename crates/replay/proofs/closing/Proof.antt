@@ -1,27 +1,20 @@
--- `closing` meets its contract: by the two totals.
+-- `closing` meets its contract: by whether all samples were used.
 use borrow.Author.Needs.{needs}
 use Rattle.answers.proofs.Cases.{cases}
 use Rattle.replay.specs.Log.{closing}
 use Rattle.replay.proofs.closing.Statement.{statement}
 use Rattle.replay.proofs.closing.Tie as tie
 
-cast-if1 : tie.Need-cast-if1
-cast-if1 c = search needs
+all-used-requires : tie.Need-all-used-requires
+all-used-requires c κs = search needs
 
 returns : tie.Need-returns
 unfolding closing
-returns c = search cases
-
-cast-if2 : tie.Need-cast-if2
-cast-if2 c = search needs
+returns c = search (cases, ← c .before .all-used .ensures)
 
 returns-2 : tie.Need-returns-2
 unfolding closing
-returns-2 c = search cases
-
-returns-3 : tie.Need-returns-3
-unfolding closing
-returns-3 c = search cases
+returns-2 c = search (cases, ← c .before .all-used .ensures)
 
 pub closing-spec : {M : Type 1} → statement M
-closing-spec = tie.close (tie.spec cast-if1 returns cast-if2 returns-2 returns-3)
+closing-spec = tie.close (tie.spec all-used-requires returns returns-2)

@@ -6,13 +6,10 @@ use Rattle.replay_suite.proofs.try_all.Statement.{statement}
 use Rattle.replay_suite.proofs.try_all.Tie as tie
 
 abbrev Inv-loop : tie.InvT-loop
-Inv-loop files index run₀ left₀ at₀ run left at = at + left * 16 ≤ length index
+Inv-loop files index places₀ left₀ at₀ places left at = at + left * 16 ≤ length index
 
 abbrev μ-loop : tie.MeasureT-loop
-μ-loop files index run₀ left₀ at₀ run left at = left
-
-new-requires : tie.Need-new-requires Inv-loop μ-loop
-new-requires c κs = search needs
+μ-loop files index places₀ left₀ at₀ places left at = left
 
 loop-holds : tie.Need-loop-holds Inv-loop μ-loop
 loop-holds c = search needs
@@ -41,7 +38,6 @@ try-all-spec =
     (tie.spec
     Inv-loop
     μ-loop
-    new-requires
     loop-holds
     sub-left
     try-recording-requires

@@ -2,7 +2,7 @@
 use mathlib.Core.Path.{refl}
 use Rattle.answers.proofs.Cases.{cases}
 use Rattle.scan_calls.proofs.Chains.{refuses, passes}
-use Rattle.replay.specs.Library.{startRefusal}
+use Rattle.replay.specs.Beginning.{startRefusal}
 use borrow.Author.Needs.{needs}
 use Rattle.replay.proofs.starting.refusal.Statement.{statement}
 use Rattle.replay.proofs.starting.refusal.Tie as tie

@@ -22,8 +22,8 @@ enum-told-4 c = search needs
 enum-known-frame : tie.Need-enum-known-frame
 enum-known-frame c = search needs
 
-bits32-requires : tie.Need-bits32-requires
-bits32-requires c κs = search needs
+pattern32-requires : tie.Need-pattern32-requires
+pattern32-requires c κs = search needs
 
 enum-told-5 : tie.Need-enum-told-5
 enum-told-5 c = search needs
@@ -37,8 +37,8 @@ enum-told-7 c = search needs
 enum-known-frame-2 : tie.Need-enum-known-frame-2
 enum-known-frame-2 c = search needs
 
-bits64-requires : tie.Need-bits64-requires
-bits64-requires c κs = search needs
+pattern64-requires : tie.Need-pattern64-requires
+pattern64-requires c κs = search needs
 
 returns : tie.Need-returns
 unfolding wordOf
@@ -58,7 +58,7 @@ returns-4 c = rw (c .enum-told4 .given .1)
 
 returns-5 : tie.Need-returns-5
 unfolding wordOf
-returns-5 c = rw (c .before .before .frame .given .1) (ap word.Banked (c .bits32 .ensures))
+returns-5 c = rw (c .before .before .frame .given .1) (ap word.Banked (c .pattern32 .ensures))
 
 returns-6 : tie.Need-returns-6
 unfolding wordOf
@@ -74,7 +74,7 @@ returns-8 c = rw (c .enum-told7 .given .1)
 
 returns-9 : tie.Need-returns-9
 unfolding wordOf
-returns-9 c = rw (c .before .before .frame2 .given .1) (ap (λ (x : ℕ). word.Region (c .before .before .frame2 .given .0 .0 .delay .0) x) (c .bits64 .ensures))
+returns-9 c = rw (c .before .before .frame2 .given .1) (ap (λ (x : ℕ). word.Region (c .before .before .frame2 .given .0 .0 .delay .0) x) (c .pattern64 .ensures))
 
 pub word-of-spec : {M : Type 1} → statement M
 word-of-spec =
@@ -85,12 +85,12 @@ word-of-spec =
     enum-told-3
     enum-told-4
     enum-known-frame
-    bits32-requires
+    pattern32-requires
     enum-told-5
     enum-told-6
     enum-told-7
     enum-known-frame-2
-    bits64-requires
+    pattern64-requires
     returns
     returns-2
     returns-3

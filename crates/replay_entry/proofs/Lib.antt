@@ -1,0 +1,2 @@
+pub mod Supplying
+pub mod Entries

@@ -1,0 +1,4 @@
+pub mod Within
+pub mod Taking
+pub mod Determined
+pub mod Calling
