@@ -2,7 +2,7 @@
 
 /// What is used of include/trimolaveg.h. A slice is its pointer and its length.
 mod tmv {
-    pub const SCAN_WORDS: usize = 24;
+    pub const SCAN_WORDS: usize = 25;
     pub const DONE: u32 = 16;
     pub const TAKING_FULL: u32 = 19;
     pub const FRAME_UNCOVERED: u32 = 16;
@@ -142,9 +142,10 @@ impl Scan {
         }
     }
 
-    fn observe(&mut self) -> u32 {
-        let mut values = [0; 2];
-        unsafe {
+    /// The answer, and how many products it took.
+    fn observe(&mut self) -> (u32, u64) {
+        let mut values = [0; 3];
+        let answer = unsafe {
             tmv::tmv_scan_observe(
                 self.state.as_mut_ptr(),
                 self.state.len(),
@@ -165,7 +166,8 @@ impl Scan {
                 values.as_mut_ptr(),
                 values.len(),
             )
-        }
+        };
+        (answer, values[2])
     }
 
     /// Delay in samples and correlation.
@@ -206,7 +208,7 @@ fn main() {
 
     let answer = scan.push_far(&[f32::NAN]);
     println!("a far sample that is no number: refused with {answer}");
-    let answer = scan.observe();
+    let (answer, _) = scan.observe();
     println!("a frame to be scored before one is full: refused with {answer}");
 
     let mut answer = tmv::FRAME_UNCOVERED;
@@ -224,8 +226,9 @@ fn main() {
             };
             let captured = echo + spoken[index] * 0.25;
             if scan.push_near(captured, index) == tmv::TAKING_FULL {
-                answer = scan.observe();
-                println!("a frame is full by sample {index}: answer {answer}");
+                let products;
+                (answer, products) = scan.observe();
+                println!("a frame is full by sample {index}: answer {answer}, {products} products");
             }
             index += 1;
         }

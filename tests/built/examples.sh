@@ -6,7 +6,7 @@ cd "$(dirname "$0")/../.."
 
 archive=${ARCHIVE:-}
 if [ -z "$archive" ]; then
-  tools/archive
+  tools/archive all
   archive=target/archive/$(uname -m)/libtrimolaveg.a
 fi
 built=target/examples

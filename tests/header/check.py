@@ -5,12 +5,14 @@ import re
 import sys
 
 HEADER = pathlib.Path("include/trimolaveg.h")
-FACE = [f"crates/{part}_face/src" for part in ("floats", "ring", "scan", "tracker", "fine")]
+FACE = [f"crates/{part}_face/src" for part in ("version", "floats", "ring", "scan", "scan_handover", "tracker", "fine")]
 # Where an answer's case gets its number.
 NUMBERING = [*FACE, "crates/ring_words/src", "crates/scan_words/src", "crates/tracker_words/src", "crates/fine_words/src"]
 REFUSALS = "crates/answers/src"
 
-C_TYPES = {"u32": "uint32_t", "u64": "uint64_t", "f32": "float", "f64": "double"}
+# What a parameter is called in C where its name in the face is a keyword of compilers for small processors.
+C_NAMES = {"near": "near_frame", "far": "far_window"}
+C_TYPES = {"u32": "uint32_t", "u64": "uint64_t", "f32": "float", "f64": "double", "": "void"}
 
 
 def sources(folder):
@@ -28,6 +30,7 @@ def without_comments(text, pattern):
 def c_parameters(parameter):
     """What one parameter of the face is in C: a slice is a pointer and a length."""
     name, kind = (part.strip() for part in parameter.split(":", 1))
+    name = C_NAMES.get(name, name)
     slice_of = re.fullmatch(r"&(mut )?\[(\w+)\]", kind)
     if not slice_of:
         return [f"{C_TYPES[kind]} {name}"]
@@ -38,7 +41,7 @@ def c_parameters(parameter):
 def face_functions():
     text = without_comments(all_sources(FACE), r"//[^\n]*")
     found = {}
-    declared = r'#\[no_mangle\]\s*pub extern "C" fn (\w+)\((.*?)\)\s*->\s*(\w+)'
+    declared = r'#\[no_mangle\]\s*pub extern "C" fn (\w+)\((.*?)\)(?:\s*->\s*(\w+))?'
     for name, parameters, answer in re.findall(declared, text, flags=re.S):
         listed = [part for part in (p.strip() for p in parameters.split(",")) if part]
         in_c = [c for part in listed for c in c_parameters(part)]

@@ -39,8 +39,10 @@ macro_rules! face {
 }
 
 face! {
+    version = tmv_version() -> u32;
     narrow = tmv_narrow(bits: number u64) -> u32;
     square_root = tmv_square_root(bits: number u64) -> u64;
+    square_roots = tmv_square_roots(list: write u64) -> ();
     is_finite = tmv_is_finite(bits: number u64) -> u32;
     is_finite32 = tmv_is_finite32(bits: number u32) -> u32;
     magnitude = tmv_magnitude(bits: number u64) -> u64;
@@ -60,6 +62,7 @@ pub mod scan {
         discard_near = tmv_scan_discard_near(state: write u64, lag_sums: write f64) -> u32;
         push_far = tmv_scan_push_far(state: write u64, envelope: write f32, samples: read f32) -> u32;
         push_near = tmv_scan_push_near(state: write u64, levels: write f32, sample: number f32, index: number u64) -> u32;
+        push_near_run = tmv_scan_push_near_run(state: write u64, levels: write f32, samples: read f32, first: number u64, values: write u64) -> u32;
         observe = tmv_scan_observe(state: write u64, envelope: read f32, levels: read f32, window: write f32, prefix: write f64, squares: write f64, scores: write f64, lag_sums: write f64, values: write u64) -> u32;
         bin_samples = tmv_scan_bin_samples(state: read u64, values: write u64) -> u32;
         ceiling_samples = tmv_scan_ceiling_samples(state: read u64, values: write u64) -> u32;
@@ -92,6 +95,7 @@ pub mod tracker {
         on_cycle = tmv_tracker_on_cycle(state: write u64, alignment: number u64, kind: number u32, delay: number u64, values: write u64) -> u32;
         on_discontinuity = tmv_tracker_on_discontinuity(state: write u64) -> u32;
         jump_cycles = tmv_tracker_jump_cycles(state: read u64, values: write u64) -> u32;
+        longest_run = tmv_tracker_longest_run(state: read u64, values: write u64) -> u32;
         suspect = tmv_tracker_suspect(state: read u64) -> u32;
         quiescent = tmv_tracker_quiescent(state: read u64) -> u32;
     }

@@ -1,0 +1,2 @@
+-- What the contract comes to.
+pub mod Determined

@@ -1,0 +1,2 @@
+-- What the call returns.
+pub mod Version

@@ -1,0 +1,110 @@
+/* Holds the constants of trimolaveg_sizes.h to the proved length functions, and the largest of each to all of them. `check` tries every rate with some ceilings, every ceiling with some rates and every span;
+ * `check full` every rate with every ceiling. */
+#include "trimolaveg_typed.h"
+
+#include <stdio.h>
+#include <stdlib.h>
+
+/* They are constants: a list's length, a case of #if. */
+static TMV_SCAN_KEPT(48000, 500) kept;
+static TMV_SCAN_SCRATCH(48000, 500) scratch;
+static TMV_FINE_KEPT(4096) frames;
+#if TMV_SCAN_KEPT_BYTES(48000, 500) != 24056 || TMV_FINE_FRAME_LEN(4096) != 4096 || TMV_SCAN_LAGS_LEN(7999, 500) != 0 || TMV_SCAN_MOST_PRODUCTS(48000, 500) != 128256
+#error "the constants are not what they were"
+#endif
+
+static const uint32_t some_rates[] = {0, 7999, 8000, 8499, 8500, 11025, 16000, 22050, 32000, 44100, 48000, 96000, 191999, 192000, 192001, UINT32_MAX};
+static const uint32_t some_ceilings[] = {0, 1, 2, 10, 100, 250, 499, 500, 1000, 2000, 3999, 4000, 4001, UINT32_MAX};
+
+static unsigned long tried, different;
+static uint64_t most_seen[8];
+
+static void same(size_t which, uint64_t constant, uint64_t call, const char *name, uint32_t first, uint32_t second)
+{
+    if (call > most_seen[which])
+        most_seen[which] = call;
+    if (constant == call)
+        return;
+    if (different++ < 5)
+        printf("sizes: %s(%lu, %lu) is %llu, and the call says %llu\n", name, (unsigned long)first, (unsigned long)second, (unsigned long long)constant, (unsigned long long)call);
+}
+
+static void scan_at(uint32_t rate, uint32_t ceiling)
+{
+    tried++;
+    same(0, TMV_SCAN_ENVELOPE_LEN(rate, ceiling), tmv_scan_envelope_len(rate, ceiling), "TMV_SCAN_ENVELOPE_LEN", rate, ceiling);
+    same(1, TMV_SCAN_LEVELS_LEN(rate, ceiling), tmv_scan_levels_len(rate, ceiling), "TMV_SCAN_LEVELS_LEN", rate, ceiling);
+    same(2, TMV_SCAN_WINDOW_LEN(rate, ceiling), tmv_scan_window_len(rate, ceiling), "TMV_SCAN_WINDOW_LEN", rate, ceiling);
+    same(3, TMV_SCAN_PREFIX_LEN(rate, ceiling), tmv_scan_prefix_len(rate, ceiling), "TMV_SCAN_PREFIX_LEN", rate, ceiling);
+    same(4, TMV_SCAN_LAGS_LEN(rate, ceiling), tmv_scan_lags_len(rate, ceiling), "TMV_SCAN_LAGS_LEN", rate, ceiling);
+}
+
+static void fine_at(uint32_t span)
+{
+    tried++;
+    same(5, TMV_FINE_FRAME_LEN(span), tmv_fine_frame_len(span), "TMV_FINE_FRAME_LEN", span, 0);
+    same(6, TMV_FINE_WINDOW_LEN(span), tmv_fine_window_len(span), "TMV_FINE_WINDOW_LEN", span, 0);
+    same(7, TMV_FINE_CORRELATION_LEN(span), tmv_fine_correlation_len(span), "TMV_FINE_CORRELATION_LEN", span, 0);
+}
+
+static void every_ceiling(uint32_t rate)
+{
+    for (uint32_t ceiling = 0; ceiling <= 4001; ceiling++)
+        scan_at(rate, ceiling);
+}
+
+static void the_largest(void)
+{
+    const uint64_t most[8] = {TMV_SCAN_ENVELOPE_MOST, TMV_SCAN_LEVELS_MOST, TMV_SCAN_WINDOW_MOST, TMV_SCAN_PREFIX_MOST, TMV_SCAN_LAGS_MOST, TMV_FINE_FRAME_MOST, TMV_FINE_WINDOW_MOST, TMV_FINE_CORRELATION_MOST};
+    for (size_t i = 0; i < 8; i++) {
+        if (most[i] == most_seen[i])
+            continue;
+        different++;
+        printf("sizes: the largest of list %lu is %llu, and not %llu\n", (unsigned long)i, (unsigned long long)most_seen[i], (unsigned long long)most[i]);
+    }
+}
+
+/* Memory that was parted at run time is what the types have. */
+static void lent(void)
+{
+    struct tmv_scan scan;
+    struct tmv_fine fine;
+    const size_t bytes = TMV_SCAN_KEPT_BYTES(48000, 500), more = TMV_SCAN_SCRATCH_BYTES(48000, 500);
+    void *first = malloc(bytes), *second = malloc(more), *third = malloc(TMV_FINE_KEPT_BYTES(4096));
+    bool good = first && second && third;
+    good = good && sizeof kept - bytes < 8 && sizeof scratch - more < 8 && sizeof frames == TMV_FINE_KEPT_BYTES(4096);
+    good = good && tmvt_scan_lend(&scan, 7999, 500, first, bytes, second, more) == TMVT_OUTSIDE_TABLE;
+    good = good && tmvt_scan_lend(&scan, 48000, 500, first, bytes - 1, second, more) == TMVT_WRONG_LENGTH;
+    good = good && tmvt_scan_lend(&scan, 48000, 500, first, bytes, second, more - 1) == TMVT_WRONG_LENGTH;
+    good = good && tmvt_scan_lend(&scan, 48000, 500, (char *)first + 4, bytes, second, more) == TMVT_WRONG_LENGTH;
+    good = good && tmvt_scan_lend(&scan, 48000, 500, first, bytes, second, more) == TMVT_ACCEPTED;
+    good = good && (char *)(scan.levels + scan.levels_len) == (char *)first + bytes && (char *)(scan.window + scan.window_len) == (char *)second + more;
+    good = good && tmvt_scan_new(&scan, 48000, 500) == TMVT_ACCEPTED;
+    good = good && tmvt_fine_lend(&fine, 0, third, 8 * 4096) == TMVT_OUTSIDE_TABLE && tmvt_fine_lend(&fine, 4096, third, 8 * 4096 - 1) == TMVT_WRONG_LENGTH;
+    good = good && tmvt_fine_lend(&fine, 4096, third, 8 * 4096) == TMVT_ACCEPTED && tmvt_fine_new(&fine, 4096) == TMVT_ACCEPTED;
+    different += !good;
+    printf("sizes: memory parted at run time %s\n", good ? "is what the types have" : "IS NOT what the types have");
+    free(first);
+    free(second);
+    free(third);
+}
+
+int main(int count, char **words)
+{
+    const bool full = count == 2 && strcmp(words[1], "full") == 0;
+    if (full)
+        for (uint32_t rate = 7999; rate <= 192001; rate++)
+            every_ceiling(rate);
+    for (uint32_t rate = 7999; rate <= 192001; rate++)
+        for (size_t i = 0; i < TMV_COUNT(some_ceilings); i++)
+            scan_at(rate, some_ceilings[i]);
+    for (size_t i = 0; i < TMV_COUNT(some_rates); i++)
+        every_ceiling(some_rates[i]);
+    for (uint32_t span = 0; span <= 32769; span++)
+        fine_at(span);
+    fine_at(UINT32_MAX);
+    the_largest();
+    lent();
+    printf("sizes: %lu settings, %lu different\n", tried, different);
+    return different != 0;
+}

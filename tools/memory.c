@@ -1,0 +1,28 @@
+/* The first half of docs/MEMORY.md: bytes of state, kept and scratch lists at the usual settings, from include/trimolaveg_sizes.h alone. */
+#include "trimolaveg_sizes.h"
+
+#include <stdio.h>
+
+static const unsigned long rates[] = {8000, 16000, 44100, 48000, 96000};
+static const unsigned long ceilings[] = {100, 250, 500, 1000, 4000};
+static const unsigned long spans[] = {512, 1024, 2048, 4096, 8192, 32768};
+
+int main(void)
+{
+    printf("## The coarse scan\n\nIts state has %lu bytes. Kept are envelope, levels and lag sums; scratch are window, both prefixes and scores, and several scans may share it.\n\n", 8UL * TMV_SCAN_WORDS);
+    printf("| Rate in Hz | Ceiling in ms | Kept | Scratch |\n|---|---|---|---|\n");
+    for (size_t i = 0; i < sizeof rates / sizeof *rates; i++)
+        for (size_t j = 0; j < sizeof ceilings / sizeof *ceilings; j++)
+            printf("| %lu | %lu | %lu | %lu |\n", rates[i], ceilings[j], TMV_SCAN_KEPT_BYTES(rates[i], ceilings[j]), TMV_SCAN_SCRATCH_BYTES(rates[i], ceilings[j]));
+    printf("| any, at most | any | %lu | %lu |\n", 8UL * TMV_SCAN_LAGS_MOST + 4UL * TMV_SCAN_ENVELOPE_MOST + 4UL * TMV_SCAN_LEVELS_MOST,
+           16UL * TMV_SCAN_PREFIX_MOST + 8UL * TMV_SCAN_LAGS_MOST + 4UL * TMV_SCAN_WINDOW_MOST);
+
+    printf("\n## The fine stage\n\nIts state has %lu bytes. Kept are the near frame and the retained one; scratch are the far window and the correlation. The transform is the host's.\n\n", 8UL * TMV_FINE_WORDS);
+    printf("| Span in samples | Kept | Scratch |\n|---|---|---|\n");
+    for (size_t i = 0; i < sizeof spans / sizeof *spans; i++)
+        printf("| %lu | %lu | %lu |\n", spans[i], TMV_FINE_KEPT_BYTES(spans[i]), TMV_FINE_SCRATCH_BYTES(spans[i]));
+    printf("| any, at most | %lu | %lu |\n", 8UL * TMV_FINE_FRAME_MOST, 4UL * TMV_FINE_WINDOW_MOST + 4UL * TMV_FINE_CORRELATION_MOST);
+
+    printf("\n## Tracker and ring\n\nA tracker has %lu bytes and no list. A ring has %lu, and 4 for each sample of its capacity.\n", 8UL * TMV_TRACKER_WORDS, 8UL * TMV_RING_WORDS);
+    return 0;
+}
