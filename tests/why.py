@@ -5,10 +5,14 @@ lines of the second."""
 
 import pathlib
 import re
-import struct
 import subprocess
 import sys
 import tempfile
+
+sys.dont_write_bytecode = True
+sys.path.insert(0, str(pathlib.Path(__file__).resolve().parent.parent / "tools"))
+
+from desk.recording import DISCONTINUITY, EDGE, INTERIOR, UNCONFIDENT, Event, Header  # noqa: E402
 
 PAGE = pathlib.Path(__file__).resolve().parent.parent / "docs/WHY-IT-GAVE-UP.md"
 RATE, CEILING = 48000, 500
@@ -26,14 +30,19 @@ def examples(text):
 def event(recording):
     """The event that a line of the list stands for. An edge candidate's numbers are not listed, since no rule uses them."""
     if recording == "discontinuity":
-        return struct.pack("<IIQ", 8, 0, 0)
+        return Event(DISCONTINUITY)
     found = recording.split(": ", 1)[1]
     if found == "unconfident":
-        return struct.pack("<IIQ", 5, 0, 0)
+        return Event(UNCONFIDENT)
     if found == "edge candidate":
-        return struct.pack("<IIQ", 7, 4800, 9600)
+        return Event(EDGE, 4800, 9600)
     delay, alignment = re.fullmatch(r"interior candidate (\d+), alignment (\d+)", found).groups()
-    return struct.pack("<IIQ", 6, int(alignment), int(delay))
+    return Event(INTERIOR, int(alignment), int(delay))
+
+
+def recorded(rows):
+    """The events file of an example."""
+    return Header(RATE, CEILING, len(rows), 0, 0).packed() + b"".join(event(recording).packed() for recording, _ in rows)
 
 
 def printed(command, **how):
@@ -43,7 +52,7 @@ def printed(command, **how):
 def wrong_rows(name, rows, command, replay, folder):
     """What is wrong with an example."""
     path = pathlib.Path(folder) / name
-    path.write_bytes(struct.pack("<6I", RATE, CEILING, len(rows), 24, 0, 0) + b"".join(event(recording) for recording, _ in rows))
+    path.write_bytes(recorded(rows))
     listed = printed(["sh", "-c", command.replace("EVENTS", str(path))])
     cycles = [log for _, log in rows if log]
     log = printed([*replay, str(path), "/dev/null", "/dev/null"])
@@ -69,4 +78,5 @@ def main():
     sys.exit(1 if wrong else 0)
 
 
-main()
+if __name__ == "__main__":
+    main()
