@@ -6,4 +6,7 @@ for file in events far near; do
   cmp "demo/$file" "crates/replay_main/data/$file"
 done
 cmp demo/log crates/replay_main/stdout
+cmp demo/log crates/parts_main/data/log
+cmp demo/second/log crates/parts_main/data/second
+sed -n "s/^    //p" README.md | sed -n "/^\$ .\/parts demo/,/^differing/p" | tail -n +2 | cmp - crates/parts_main/stdout
 echo "demo: the gate replays it"

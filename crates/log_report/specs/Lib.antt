@@ -1,0 +1,3 @@
+-- What is told of two logs, as text.
+pub mod Texts
+pub mod Calls

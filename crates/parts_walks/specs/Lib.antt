@@ -1,0 +1,6 @@
+-- How the loops move their windows, and what they are answered.
+pub mod Windows
+pub mod Inputs
+pub mod Judged
+pub mod Ordered
+pub mod Counted
