@@ -2,7 +2,8 @@
 
 Every name in the tables of PROMISES.md must be declared where the table says: `crate: \\`name\\`` as a definition, function or theorem of that crate, or as one of its wrong
 programs; that a comment or an import mentions it is not enough. `crates/..: \\`name\\`` must be declared in that file.
-DETERMINED.md lists each public call with the theorems that its contract admits one result; `promises.py --write` writes it anew.
+DETERMINED.md lists each public call with the theorems that its contract admits one result, and WHERE.md each name of PROMISES.md with the file that declares it;
+`promises.py --write` writes both anew.
 Every call of that list has two wrong bodies, which tests/wrong/try or `rt ci` tries.
 """
 
@@ -13,12 +14,16 @@ import sys
 ROOT = pathlib.Path(__file__).resolve().parent.parent
 CRATES = ROOT / "crates"
 # The crates whose calls a host makes.
-CALLED = ["floats", "ring", "tracker", "scan_calls", "scan_push", "scan_runs", "scan_score", "fine", "fine_gate", "fine_peak", "log_lines", "recording", "replay", "floats_face", "ring_face", "tracker_face", "fine_face", "scan_face"]
+CALLED = ["floats", "ring", "tracker", "scan_calls", "scan_push", "scan_runs", "scan_handover", "scan_score", "fine", "fine_gate", "fine_peak", "log_lines", "log_text", "log_parts", "log_passes", "log_report", "recording", "replay", "replay_next", "version_face", "floats_face", "ring_face", "tracker_face", "fine_face", "scan_face", "scan_handover_face"]
 # Public only for the crates above them; a host calls none of these. Each is pinned by an equation in its contract all the same.
 INNER = {
+    "floats": ["bits.rt"],
     "scan_calls": ["clearing.rt", "parts.rt", "restart.rt", "rules.rt"],
-    "scan_push": ["far.rt", "level.rt", "near.rt"],
+    "scan_push": ["far.rt", "level.rt", "near.rt", "sums.rt"],
+    "scan_handover": ["fill.rt", "part.rt"],
     "scan_score": ["refusal.rt", "window.rt"],
+    "log_lines": ["put", "put_line", "put_number", "put_numbers"],
+    "tracker": ["evidence"],
     "fine": ["of", "with_frames"],
     "replay": ["events.rt", "starting.rt", "words.rt"],
 }
@@ -46,7 +51,7 @@ def wrong_programs(crate):
 def declares(text, name):
     """Whether a file declares a name: a function, type, constant, a case of an enum with what it holds, or a definition."""
     plain = re.escape(name)
-    return re.search(rf"\b(?:fn|struct|enum|const) {plain}\b|^ +{plain},|^(?:\w+ )*{plain} :", text, re.M) is not None
+    return re.search(rf"\b(?:fn|struct|enum|const) {plain}\b|^ +{plain},|^(?:\w+ )*{plain} (?::|\(.*\) :)", text, re.M) is not None
 
 
 def known_crates():
@@ -54,9 +59,8 @@ def known_crates():
     return {line.split(":")[0] for line in lines if line and not line.startswith("#")}
 
 
-def missing_names(text, crates):
-    """What the tables of a paper name and the tree has not."""
-    names = {crate: names_of(crate) for crate in crates}
+def named(text, crates):
+    """What the tables of a paper name: (line, crate, name), and (line, path, name) where a file is named."""
     default = None
     for number, line in enumerate(text.splitlines(), 1):
         if not line.startswith("|"):
@@ -68,16 +72,43 @@ def missing_names(text, crates):
             for token in re.finditer(r"(crates/[\w/.]+): `([^`]+)`|\b(\w+)(?=: )|`([^`]+)`", cell):
                 path, there, word, name = token.groups()
                 if path:
-                    if not (ROOT / path).exists() or not declares((ROOT / path).read_text(), there):
-                        yield f"PROMISES.md:{number}: {path} does not declare `{there}`"
+                    yield number, path, there
                 elif word in crates:
                     crate = word
                     if "(" + word + ": " in cell and "Definition" in cell:
                         default = word
                 elif name and crate:
-                    last = re.split(r"::| ", name)[-1]
-                    if last not in names[crate] and last.replace("_", "-") not in names[crate]:
-                        yield f"PROMISES.md:{number}: `{name}` is not in crate {crate}"
+                    yield number, crate, re.split(r"::| ", name)[-1]
+
+
+def missing_names(text, crates):
+    """What the tables of a paper name and the tree has not."""
+    names = {crate: names_of(crate) for crate in crates}
+    for number, where, name in named(text, crates):
+        if "/" in where:
+            if not (ROOT / where).exists() or not declares((ROOT / where).read_text(), name):
+                yield f"PROMISES.md:{number}: {where} does not declare `{name}`"
+        elif name not in names[where] and name.replace("_", "-") not in names[where]:
+            yield f"PROMISES.md:{number}: `{name}` is not in crate {where}"
+
+
+def where(text, crates):
+    """The page that says in which file each definition, function and theorem of PROMISES.md is declared."""
+    lines = [
+        "# Where the names of PROMISES stand",
+        "",
+        "Each definition, function and theorem that [PROMISES](PROMISES.md) names, with the file that declares it. Wrong programs are files of their own name, in `crates/CRATE/must-fail` or",
+        "`tests/wrong/CRATE`. This page is written by `tests/promises.py --write` and held to the tree by `./test`.",
+        "",
+        "| Crate | Name | File |",
+        "|---|---|---|",
+    ]
+    sources = {crate: [p for kind in ("specs", "src", "proofs") for p in sorted((CRATES / crate / kind).rglob("*")) if p.suffix in (".rt", ".antt") and p.stem != "Proof"] for crate in crates}
+    texts = {path: path.read_text() for paths in sources.values() for path in paths}
+    for crate, name in sorted({(c, n) for _, c, n in named(text, crates) if "/" not in c}):
+        files = [p for p in sources[crate] if declares(texts[p], name) or declares(texts[p], name.replace("_", "-"))]
+        lines += [f"| {crate} | `{name}` | [{p.relative_to(CRATES / crate)}](../{p.relative_to(ROOT)}) |" for p in files[:1]]
+    return "\n".join(lines) + "\n"
 
 
 def public_calls(crate):
@@ -154,14 +185,17 @@ def missing_wrong_bodies(crates):
 def main():
     crates = known_crates()
     page, left_out = determined(crates)
-    listing = ROOT / "docs" / "DETERMINED.md"
+    promises = (ROOT / "docs" / "PROMISES.md").read_text()
+    listings = {"DETERMINED.md": page, "WHERE.md": where(promises, crates)}
     if sys.argv[1:] == ["--write"]:
-        listing.write_text(page)
-    wrong = list(missing_names((ROOT / "docs" / "PROMISES.md").read_text(), crates))
+        for name, text in listings.items():
+            (ROOT / "docs" / name).write_text(text)
+    wrong = list(missing_names(promises, crates))
     wrong += [f"{call}: no theorem says that its contract admits one result" for call in left_out]
     wrong += missing_wrong_bodies(crates)
-    if listing.read_text() != page:
-        wrong.append("docs/DETERMINED.md is not what the tree gives: run tests/promises.py --write")
+    for name, text in listings.items():
+        if (ROOT / "docs" / name).read_text() != text:
+            wrong.append(f"docs/{name} is not what the tree gives: run tests/promises.py --write")
     for line in wrong:
         print(f"promises: {line}")
     calls = len(re.findall(r"^\| \w+: ", page, re.M))

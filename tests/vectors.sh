@@ -14,11 +14,13 @@ hold() { # what is made, and the folder where it is stored
   target/compare/compare vectors "$1" 1 "$made/$1" 2>/dev/null
   for file in "$made/$1"/*; do
     stored=$2/$(basename "$file")
+    [ "${file##*/}" != logs ] || stored=$2/../stdout # what replay_suite and parts_suite must write
     cmp -s "$file" "$stored" || { echo "vectors: $stored is not what the original gives" >&2; exit 1; }
   done
 }
-for what in tracker ring scan fine replay; do
+for what in tracker ring scan fine replay parts; do
   hold "$what" "crates/${what}_suite/data"
 done
 hold demo demo
-echo "vectors: tracker, ring, scan, fine, replay and demo are what the original gives"
+target/compare/compare replay demo/second/events demo/far demo/near | cmp -s - demo/second/log || { echo "vectors: demo/second/log is not what the original gives" >&2; exit 1; }
+echo "vectors: tracker, ring, scan, fine, replay, parts and demo are what the original gives"

@@ -32,7 +32,7 @@ pub fn run(seed: u64, count: u64) -> bool {
         face::tracker::words(),
         face::ring::words(),
     ];
-    if words != [24, 13, 14, 1] {
+    if words != [25, 14, 15, 1] {
         different += 1;
         println!("lengths: words {words:?}");
     }

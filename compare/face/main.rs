@@ -23,6 +23,8 @@ mod changes;
 mod choices;
 mod course;
 mod differences;
+#[path = "../../bindings/rust/src/face.rs"]
+#[allow(dead_code)]
 mod face;
 mod fines;
 mod floats;
@@ -39,6 +41,7 @@ mod trial;
 
 const USAGE: &str = "\
 face floats SEED COUNT    square root, narrowing, finite tests and absolute value against the hardware, COUNT patterns each
+face roots SEED COUNT     square roots alone, one by one and in lists
 face ring SEED CALLS      the named cases, then every call in random order with random damage; so for tracker, scan and fine
 face frames SEED COUNT    frames to be scored, bit for bit
 face streams SEED SCANS   whole streams from samples
@@ -66,6 +69,7 @@ fn main() {
 fn one(what: &str, seed: u64, count: u64) -> bool {
     match what {
         "floats" => floats::run(seed, count),
+        "roots" => floats::roots(seed, count),
         "ring" => course::run::<rings::Ring>(seed, count),
         "tracker" => course::run::<trackers::Follower>(seed, count),
         "scan" => course::run::<scans::Scan>(seed, count),

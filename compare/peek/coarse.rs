@@ -74,6 +74,24 @@ impl CoarseScan {
         answer
     }
 
+    /// The products that the lag sums of the frame just scored took, if it counted. The original counts none: the lags that its own test lets
+    /// through are counted from the prefixes that it left, and every lag that has a score must be among them.
+    pub(crate) fn products(&self, counted: bool) -> u64 {
+        if !counted {
+            return 0;
+        }
+        let frame = self.frame;
+        let formed = |k: usize| {
+            let s1 = self.prefix_sum[k + frame] - self.prefix_sum[k];
+            let s2 = self.prefix_sq[k + frame] - self.prefix_sq[k];
+            let far_energy = s2 - s1 * s1 / frame as f64;
+            !(far_energy <= COARSE_VARIANCE_FLOOR)
+        };
+        let lags = || 0..=self.span;
+        assert!(lags().all(|k| formed(k) || self.corr[k] == 0.0), "a lag has a score and no products");
+        (frame * lags().filter(|&k| formed(k)).count()) as u64
+    }
+
     fn foreseen(&self) -> FrameAnswer {
         let plain = self.asked(|scan| scan.frames = 0);
         if plain.frames == 0 {
@@ -138,6 +156,41 @@ impl CoarseScan {
     pub(crate) fn foreseen_scores(&self) -> Option<Vec<f64>> {
         let asked = self.asked(|scan| scan.frames = 0);
         (asked.frames == 1).then_some(asked.corr)
+    }
+
+    /// A frame, or a block of one, is under way.
+    pub(crate) fn under_way(&self) -> bool {
+        !self.near_env.is_empty() || self.near_count > 0
+    }
+
+    /// Whether a sample of this index meets a hole, where the last one taken had the index `last` (request d). The original compares no indices.
+    pub(crate) fn meets_hole(&self, last: u64, index: u64) -> bool {
+        self.under_way() && last.checked_add(1) != Some(index)
+    }
+
+    /// Whether a sample of this index is dropped, unread: no frame goes on with it, and it begins none.
+    pub(crate) fn drops(&self, last: u64, index: u64) -> bool {
+        let goes_on = self.under_way() && !self.meets_hole(last, index);
+        !goes_on && index % self.decimation as u64 != 0
+    }
+
+    /// Brings the scan to where a hole leaves it: the one thing that the original does not do itself.
+    pub(crate) fn drop_near_frame(&mut self) {
+        self.near_env.clear();
+        self.near_acc = 0.0;
+        self.near_count = 0;
+    }
+
+    /// A near sample that is not refused, after a hole if it meets one. Answers whether the frame is full; `last` becomes its index if it is taken.
+    pub(crate) fn push_numbered(&mut self, last: &mut u64, sample: f32, index: u64) -> bool {
+        if self.meets_hole(*last, index) {
+            self.drop_near_frame();
+        }
+        let full = self.push_near(sample, index);
+        if self.under_way() {
+            *last = index;
+        }
+        full
     }
 
     pub(crate) fn geometry(&self) -> Geometry {

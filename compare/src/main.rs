@@ -17,6 +17,7 @@ mod ring;
 mod track;
 
 mod histories;
+mod parts;
 mod random;
 mod record;
 mod replay;
@@ -32,6 +33,9 @@ compare vectors replay SEED FOLDER    writes index, events, far, near, logs and 
 compare vectors demo SEED FOLDER      writes events, far, near and log of the demo recording
 compare long WHICH MINUTES FOLDER     writes events, far and near of a long recording: working or found
 compare replay EVENTS FAR NEAR        prints the log of a recording
+compare vectors parts SEED FOLDER     writes index, first, second and logs: pairs of logs, and what is told of them
+compare parts SEED COUNT PROGRAM      runs PROGRAM LOG LOG on random pairs of logs and compares what it prints and its status
+compare long-logs LINES FOLDER        writes first and second, two logs of so many lines that differ in one
 compare histories SEED CYCLES         tells verdicts from random histories by request m's sentences, beside track.rs
 compare replays SEED COUNT PROGRAM    runs PROGRAM EVENTS FAR NEAR on random recordings and compares what it prints";
 
@@ -41,6 +45,8 @@ fn main() {
     let done = match words[..] {
         ["vectors", what, seed, folder] => vectors::write(what, seed, folder),
         ["replays", seed, count, program] => replays(seed, count, program),
+        ["parts", seed, count, program] => parts(seed, count, program),
+        ["long-logs", lines, folder] => long_logs(lines, folder),
         ["histories", seed, cycles] => histories(seed, cycles),
         ["long", which, minutes, folder] => long(which, minutes, folder),
         ["replay", events, far, near] => print_log(events, far, near),
@@ -50,6 +56,26 @@ fn main() {
         eprintln!("{message}");
         std::process::exit(2);
     }
+}
+
+fn parts(seed: &str, count: &str, program: &str) -> Result<(), String> {
+    let seed = seed.parse().map_err(|_| format!("'{seed}' is no seed"))?;
+    let count = count
+        .parse()
+        .map_err(|_| format!("'{count}' is no number of pairs"))?;
+    parts::run(seed, count, program)
+}
+
+fn long_logs(lines: &str, folder: &str) -> Result<(), String> {
+    let lines = lines
+        .parse()
+        .map_err(|_| format!("'{lines}' is no number of lines"))?;
+    std::fs::create_dir_all(folder).map_err(|error| format!("{folder}: {error}"))?;
+    for (name, bytes) in ["first", "second"].into_iter().zip(parts::long(lines)) {
+        let path = format!("{folder}/{name}");
+        std::fs::write(&path, bytes).map_err(|error| format!("{path}: {error}"))?;
+    }
+    Ok(())
 }
 
 fn histories(seed: &str, cycles: &str) -> Result<(), String> {

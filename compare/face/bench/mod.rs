@@ -13,10 +13,13 @@ pub fn run() -> bool {
     scan::frames(48_000, 4_000, 60);
     far_pushes();
     scan::near_push();
+    scan::near_run(16);
+    scan::near_run(480);
     tracker::cycle();
     fine::peak(1_000);
     fine::peak(32_768);
     floats::root();
+    floats::roots();
     floats::narrowing();
     true
 }

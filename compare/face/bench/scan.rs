@@ -7,6 +7,7 @@ use crate::face;
 use crate::random::Random;
 use crate::scans::beside;
 use crate::scans::calls::observe;
+use crate::scans::teleport;
 use crate::scans::world::World;
 use std::cell::RefCell;
 use std::hint::black_box;
@@ -27,6 +28,7 @@ fn waiting(rate: u32, ceiling: u32) -> World {
     w.set_word(11, blocks * bins.decimation);
     w.set_word(12, bins.frame);
     w.set_word(15, blocks - bins.frame - 3);
+    teleport::set_last(&mut w);
     w
 }
 
@@ -69,7 +71,7 @@ pub fn frames(rate: u32, ceiling: u32, runs: usize) {
     );
 }
 
-/// As many roots as the frame has lags, of its own energies.
+/// As many roots as the frame has lags, of its own energies, in one list as the frame takes them.
 fn roots(w: &World, runs: usize) -> f64 {
     let frame = w.bins().frame as usize;
     let products: Vec<u64> = (0..w.lag_sums.all().len())
@@ -80,11 +82,8 @@ fn roots(w: &World, runs: usize) -> f64 {
         })
         .collect();
     let time = || {
-        nanoseconds(|| {
-            for product in &products {
-                black_box(face::square_root(*product));
-            }
-        })
+        let mut list = products.clone();
+        nanoseconds(|| face::square_roots(black_box(&mut list)))
     };
     least(&(0..runs).map(|_| time()).collect::<Vec<f64>>())
 }
@@ -186,4 +185,49 @@ pub fn near_push() {
         },
     );
     times.row("near push, a sample", COUNT);
+}
+
+/// A run in one call, beside as many calls of the Rust, within one frame of 12,288 samples.
+pub fn near_run(count: usize) {
+    const SAMPLES: usize = 3 * 3_840;
+    let mut random = Random::new(9);
+    let samples: Vec<f32> = (0..SAMPLES).map(|_| choices::sample(&mut random)).collect();
+    let times = Times::take(
+        300,
+        || {
+            let mut w = World::new(48_000, 500);
+            let mut values = [0];
+            nanoseconds(|| {
+                for (i, run) in samples.chunks_exact(count).enumerate() {
+                    let answer = face::scan::push_near_run(
+                        w.state.lent_mut(),
+                        w.levels.lent_mut(),
+                        black_box(run),
+                        (i * count) as u64,
+                        &mut values,
+                    );
+                    assert_eq!(answer, 18);
+                }
+            })
+        },
+        || {
+            let mut original = CoarseScan::new(48_000, 500);
+            nanoseconds(|| {
+                for (i, run) in samples.chunks_exact(count).enumerate() {
+                    rust_push_run(&mut original, black_box(run), (i * count) as u64);
+                }
+            })
+        },
+    );
+    times.row(
+        &format!("near run of {count} samples at 48000 Hz, a run"),
+        SAMPLES / count,
+    );
+}
+
+#[inline(never)]
+fn rust_push_run(scan: &mut CoarseScan, samples: &[f32], first: u64) {
+    for (i, sample) in samples.iter().enumerate() {
+        black_box(scan.push_near(*sample, first + i as u64));
+    }
 }

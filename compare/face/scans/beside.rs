@@ -52,9 +52,9 @@ fn fields(w: &World) -> Fields {
     }
 }
 
-/// The words that the original's state has, over those that were there: rate, ceiling and bin rate are not kept by it, and without a region the region's words stay.
-pub fn stored(before: &[u64], scan: &CoarseScan) -> [u64; WORDS] {
-    let mut words: [u64; WORDS] = before.try_into().expect("24 words");
+/// The words that the original's state has, over those that were there: rate, ceiling and bin rate are not kept by it, and without a region the region's words stay. `last` is the last index, which it does not keep either.
+pub fn stored(before: &[u64], scan: &CoarseScan, last: u64) -> [u64; WORDS] {
+    let mut words: [u64; WORDS] = before.try_into().expect("25 words");
     let geometry = scan.geometry();
     let fields = scan.fields();
     words[2] = geometry.decimation as u64;
@@ -80,6 +80,7 @@ pub fn stored(before: &[u64], scan: &CoarseScan) -> [u64; WORDS] {
     }
     words[22] = fields.beyond_ceiling as u64;
     words[23] = fields.exhausted as u64;
+    words[24] = last;
     words
 }
 
@@ -101,7 +102,7 @@ pub fn holds(w: &World, scan: &CoarseScan, list: List) -> bool {
 }
 
 /// The first word of the state or of these lists that is not the original's.
-pub fn differs(w: &World, scan: &CoarseScan, lists: &[List]) -> Option<String> {
-    word_differs(w.state.all(), &stored(w.state.before(), scan))
+pub fn differs(w: &World, scan: &CoarseScan, last: u64, lists: &[List]) -> Option<String> {
+    word_differs(w.state.all(), &stored(w.state.before(), scan, last))
         .or_else(|| list_differs(lists, |list| holds(w, scan, list)))
 }

@@ -20,6 +20,10 @@ pub fn face(w: &mut World, call: &Call) -> u32 {
             face::push_near(state, w.levels.lent_mut(), sample, index)
         }
         Call::Observe => observe(w),
+        Call::PushNearRun { first } => {
+            let (levels, samples) = (w.levels.lent_mut(), w.samples.lent());
+            face::push_near_run(state, levels, samples, first, values)
+        }
         Call::BinSamples => face::bin_samples(state, values),
         Call::CeilingSamples => face::ceiling_samples(state, values),
         Call::Frames => face::frames(state, values),
@@ -46,19 +50,32 @@ pub fn observe(w: &mut World) -> u32 {
 }
 
 /// Does the same with the original: the number of the case, and the values that go with it.
-pub fn original(w: &World, call: &Call, scan: &mut CoarseScan) -> (u32, Vec<u64>) {
+/// `last` is the index of the last near sample that was taken, which the original does not keep.
+pub fn original(w: &World, call: &Call, scan: &mut CoarseScan, last: &mut u64) -> (u32, Vec<u64>) {
     let flag = |yes: bool| (16 + yes as u32, vec![]);
     match *call {
-        Call::New { rate, ceiling } => *scan = CoarseScan::new(rate, ceiling as u16),
-        Call::Reset => scan.reset(),
-        Call::Rearm => scan.rearm(),
+        Call::New { rate, ceiling } => {
+            *scan = CoarseScan::new(rate, ceiling as u16);
+            *last = 0;
+        }
+        Call::Reset => {
+            scan.reset();
+            *last = 0;
+        }
+        Call::Rearm => {
+            scan.rearm();
+            *last = 0;
+        }
         Call::DiscardNear => scan.discard_near(),
         Call::PushFar => scan.push_far(w.samples.lent()),
-        Call::PushNear { sample, index } => return (near_answer(scan, sample, index), vec![]),
-        Call::Observe => return frame_answer(scan.scored()),
+        Call::PushNear { sample, index } => {
+            return (near_answer(scan, last, sample, index), vec![])
+        }
+        Call::Observe => return scored(w, scan),
         Call::BinSamples => return (16, vec![scan.bin_samples() as u64]),
         Call::CeilingSamples => return (16, vec![scan.ceiling_samples() as u64]),
         Call::Frames => return (16, vec![scan.frames() as u64]),
+        Call::PushNearRun { first } => return near_run(w, scan, last, first),
         Call::Correlation => return (16, vec![correlation(scan) as u64]),
         Call::Region => {
             return match scan.region() {
@@ -73,7 +90,7 @@ pub fn original(w: &World, call: &Call, scan: &mut CoarseScan) -> (u32, Vec<u64>
     (16, vec![])
 }
 
-/// The one report that the original computes: a region's correlation is narrowed, and what `as f32` makes of a NaN's bits is left open. Document 01 fixes it.
+/// The one report that the original computes: a region's correlation is narrowed, and what `as f32` makes of a NaN's bits is left open. The scope paper fixes it.
 fn correlation(scan: &CoarseScan) -> u32 {
     match scan.region() {
         Some(region) if region.corr.is_nan() => narrowed(region.corr.to_bits()),
@@ -81,24 +98,50 @@ fn correlation(scan: &CoarseScan) -> u32 {
     }
 }
 
-/// The original says only whether the frame is full: a finished scan ignores, and a sample that is not counted was dropped.
-fn near_answer(scan: &mut CoarseScan, sample: f32, index: u64) -> u32 {
+/// The original says only whether the frame is full: a finished scan ignores, and a sample after which no frame is under way was dropped.
+fn near_answer(scan: &mut CoarseScan, last: &mut u64, sample: f32, index: u64) -> u32 {
     if scan.finished() {
         assert!(!scan.push_near(sample, index));
         return 16;
     }
-    let before = scan.fields();
-    let full = scan.push_near(sample, index);
-    let after = scan.fields();
-    let counted = (before.near_len, before.near_count) != (after.near_len, after.near_count);
-    match (full, counted) {
+    let full = scan.push_numbered(last, sample, index);
+    match (full, scan.under_way()) {
         (true, _) => 19,
         (_, true) => 18,
         _ => 17,
     }
 }
 
-pub fn frame_answer(answer: FrameAnswer) -> (u32, Vec<u64>) {
+/// Sample by sample, with rising indices, up to the one that completes the frame.
+fn near_run(w: &World, scan: &mut CoarseScan, last: &mut u64, first: u64) -> (u32, Vec<u64>) {
+    let samples = w.samples.lent();
+    for (i, sample) in samples.iter().enumerate() {
+        match near_answer(scan, last, *sample, first.wrapping_add(i as u64)) {
+            16 => return (16, vec![samples.len() as u64]),
+            19 => return (19, vec![i as u64 + 1]),
+            _ => {}
+        }
+    }
+    (18, vec![samples.len() as u64])
+}
+
+/// Whether a frame with this answer passed to step 5.
+pub fn counted(number: u32) -> bool {
+    number >= 20
+}
+
+/// The frame scored and named. Its products are the third value; those before it that the answer does not have are as they were.
+pub fn scored(w: &World, scan: &mut CoarseScan) -> (u32, Vec<u64>) {
+    let (number, mut values) = frame_answer(scan.scored());
+    let before = w.values.before();
+    while values.len() < 2 {
+        values.push(before[values.len()]);
+    }
+    values.push(scan.products(counted(number)));
+    (number, values)
+}
+
+fn frame_answer(answer: FrameAnswer) -> (u32, Vec<u64>) {
     match answer {
         FrameAnswer::Uncovered => (16, vec![]),
         FrameAnswer::Ahead => (17, vec![]),

@@ -59,7 +59,8 @@ pub fn call(random: &mut Random, w: &mut World, index: &mut u64) -> Call {
         0..=3 => Call::Rearm,
         4..=5 => Call::DiscardNear,
         6..=27 => far_push(random, w),
-        28..=64 => near_push(random, w, index),
+        28..=50 => near_push(random, w, index),
+        51..=64 => near_run(random, w, index),
         65..=67 => Call::Observe,
         68..=71 => Call::BinSamples,
         72..=75 => Call::CeilingSamples,
@@ -100,12 +101,22 @@ fn far_push(random: &mut Random, w: &mut World) -> Call {
     Call::PushFar
 }
 
-/// The index goes on, begins a frame, or is any number at all.
+/// The index goes on, meets a hole nearby, begins a frame, or is any number at all.
 fn near_push(random: &mut Random, w: &World, next: &mut u64) -> Call {
-    let index = match random.below(20) {
+    if w.word(12) != 0 || w.word(14) != 0 {
+        *next = w.word(24).wrapping_add(1);
+    }
+    let block = w.bins().decimation;
+    let index = match random.below(40) {
         0 => choices::huge(random),
         1 => random.word() >> 3,
-        2..=6 => random.below(1 << 30) * w.bins().decimation,
+        2..=5 => random.below(1 << 30) * block,
+        6 => next.wrapping_sub(1),
+        7 => next.wrapping_add(1),
+        8 => next.wrapping_sub(2),
+        9 => next.wrapping_add(random.between(2, 3 * block)),
+        10 => next.wrapping_sub(random.between(2, 3 * block)),
+        11..=12 => (*next / block + random.below(3)).saturating_sub(1) * block,
         _ => *next,
     };
     *next = index.wrapping_add(1);
@@ -114,4 +125,35 @@ fn near_push(random: &mut Random, w: &World, next: &mut u64) -> Call {
         false => choices::sample(random),
     };
     Call::PushNear { sample, index }
+}
+
+/// Runs of none, of one, of about sixteen, up to a frame and beyond it, from the indices that single samples have. Now and then a sample is not finite.
+fn near_run(random: &mut Random, w: &mut World, next: &mut u64) -> Call {
+    let Call::PushNear { index: first, .. } = near_push(random, w, next) else {
+        unreachable!()
+    };
+    let bins = w.bins();
+    let frame = bins.frame * bins.decimation;
+    let inside = w.word(12) * bins.decimation + w.word(14);
+    let count = match random.below(16) {
+        0 => 0,
+        1..=2 => 1,
+        3..=4 => 15,
+        5..=7 => 16,
+        8..=9 => 17,
+        10 => frame + 5,
+        11 => (frame - inside.min(frame)) + random.below(3),
+        12 => 4 * bins.decimation + random.below(bins.decimation),
+        _ => random.between(0, 3 * bins.decimation),
+    };
+    let odd = random.once_in(4).then(|| random.below(count.max(1)));
+    let samples: Vec<f32> = (0..count)
+        .map(|i| match odd == Some(i) {
+            true => f32::from_bits(choices::odd32(random)),
+            false => choices::sample(random),
+        })
+        .collect();
+    w.samples = Lent::of(&samples);
+    *next = first.wrapping_add(count);
+    Call::PushNearRun { first }
 }

@@ -3,7 +3,7 @@
 use crate::coarse::CoarseScan;
 use crate::lists::Lists;
 use crate::random::Random;
-use crate::scans::calls::{frame_answer, observe};
+use crate::scans::calls::{counted, observe, scored};
 use crate::scans::choose::RATES;
 use crate::scans::shape::OBSERVED;
 use crate::scans::world::World;
@@ -73,15 +73,17 @@ fn frame(w: &mut World, original: &mut CoarseScan, named: bool) -> (u32, Option<
         w.list(list).keep();
     }
     let got = observe(w);
-    let mut wrong = None;
-    if named {
-        let (number, values) = frame_answer(original.scored());
+    let wrong = if named {
+        let (number, values) = scored(w, original);
         let told = number == got && w.values.all().starts_with(&values);
-        wrong = (!told).then(|| format!("the Rust answers {number} {values:x?}"));
+        (!told).then(|| format!("the Rust answers {number} {values:x?}"))
     } else {
         original.observe();
-    }
-    let wrong = wrong.or_else(|| beside::differs(w, original, &OBSERVED));
+        let products = original.products(counted(got));
+        let told = w.values.all()[2];
+        (told != products).then(|| format!("{told} products, the Rust {products}"))
+    };
+    let wrong = wrong.or_else(|| beside::differs(w, original, w.state.before()[24], &OBSERVED));
     (got, wrong)
 }
 
@@ -101,7 +103,7 @@ fn begin(random: &mut Random) -> World {
 
 /// What a rearm leaves.
 fn search_anew(w: &mut World) {
-    for at in (12..20).chain(22..24) {
+    for at in (12..20).chain(22..25) {
         w.set_word(at, 0);
     }
     w.lag_sums.all_mut().fill(0.0);

@@ -8,7 +8,7 @@ pub mod frames;
 mod referee;
 pub mod shape;
 pub mod streams;
-mod teleport;
+pub mod teleport;
 pub mod world;
 
 use crate::coarse::CoarseScan;
@@ -27,6 +27,8 @@ pub struct Scan {
     behind: bool,
     /// The index that the next near sample has if nothing is skipped.
     index: u64,
+    /// The index of the last near sample that was taken, which the original does not keep.
+    last: u64,
 }
 
 impl Subject for Scan {
@@ -44,6 +46,7 @@ impl Subject for Scan {
             beside::bring(w, &mut self.original);
         }
         self.behind = false;
+        self.last = w.word(24);
     }
 
     /// A new original has new buffers, of which the call was lent only some.
@@ -52,7 +55,7 @@ impl Subject for Scan {
             self.setting = (rate as u64, ceiling as u64);
             self.behind = true;
         }
-        calls::original(w, call, &mut self.original)
+        calls::original(w, call, &mut self.original, &mut self.last)
     }
 
     fn stored(&self, w: &World, call: &Call) -> Vec<u64> {
@@ -62,7 +65,7 @@ impl Subject for Scan {
             before[1] = ceiling as u64;
             before[3] = Bins::of(before[0], before[1]).bin_rate;
         }
-        beside::stored(&before, &self.original).to_vec()
+        beside::stored(&before, &self.original, self.last).to_vec()
     }
 
     fn holds(&self, w: &World, list: List) -> bool {
@@ -83,6 +86,7 @@ impl Walker for Scan {
             setting: (8000, 1),
             behind: false,
             index: 0,
+            last: 0,
         };
         (scan, world)
     }

@@ -1,4 +1,4 @@
-//! Which refusal is due: document 01's table, order and state rules, and what the C header says of lists and words. Nothing of the core's source, and of the
+//! Which refusal is due: the scope paper's table, order and state rules, and what the C header says of lists and words. Nothing of the core's source, and of the
 //! calls only their shape.
 
 use super::shape::{Call, List};
@@ -23,6 +23,7 @@ pub fn due(w: &World, call: &Call) -> Judged {
         Call::PushFar => far_push(w),
         Call::PushNear { sample, index } => near_push(w, &bins, sample, index),
         Call::Observe => scoring(w, &bins),
+        Call::PushNearRun { first } => near_run(w, &bins, first),
         _ => Ok(()),
     }
 }
@@ -54,6 +55,8 @@ fn keeps_rules(state: &[u64], bins: &Bins) -> bool {
     let finished = state[19] == 1 || state[23] == 1;
     let (next, far_count, accepted) = (state[8], state[10], state[11]);
     let (len, near_count, first) = (state[12], state[14], state[15]);
+    let start = first as u128 * bins.decimation as u128;
+    let taken = len as u128 * bins.decimation as u128 + near_count as u128;
     state[2..8] == bins.words()
         && next == accepted / bins.decimation
         && far_count == accepted % bins.decimation
@@ -63,7 +66,8 @@ fn keeps_rules(state: &[u64], bins: &Bins) -> bool {
         && near_count < bins.decimation
         && len <= bins.frame
         && (len < bins.frame || near_count == 0)
-        && (first as u128) * (bins.decimation as u128) < LIMIT as u128
+        && start < LIMIT as u128
+        && (taken == 0 || state[24] as u128 + 1 == start + taken)
         && cases
         && state[16] < 4
         && (!finished || len == 0 && near_count == 0)
@@ -76,16 +80,43 @@ fn far_push(w: &World) -> Judged {
     require(all_finite32(samples), NOT_FINITE)
 }
 
-/// A finished scan ignores any sample, and a sample is dropped unread where no frame is under way and none begins at its index.
+/// A finished scan ignores any sample, and a sample is dropped unread where no frame goes on with its index and none begins there.
 fn near_push(w: &World, bins: &Bins, sample: f32, index: u64) -> Judged {
     if w.finished() {
         return Ok(());
     }
     require(w.word(12) != bins.frame, FRAME_WAITS)?;
     require(index < LIMIT, TOO_LARGE)?;
-    let idle = w.word(12) == 0 && w.word(14) == 0;
-    let dropped = idle && index % bins.decimation != 0;
+    let under_way = w.word(12) != 0 || w.word(14) != 0;
+    let goes_on = under_way && index as u128 == w.word(24) as u128 + 1;
+    let dropped = !goes_on && index % bins.decimation != 0;
     require(dropped || finite32(sample.to_bits()), NOT_FINITE)
+}
+
+/// The part that would be taken is walked sample by sample, and judged only then: its last index, and each sample of it that would go into the frame.
+fn near_run(w: &World, bins: &Bins, first: u64) -> Judged {
+    let samples = w.samples.lent();
+    if samples.is_empty() || w.finished() {
+        return Ok(());
+    }
+    require(w.word(12) != bins.frame, FRAME_WAITS)?;
+    let mut inside = w.word(12) * bins.decimation + w.word(14);
+    if inside != 0 && first as u128 != w.word(24) as u128 + 1 {
+        inside = 0;
+    }
+    let (mut last, mut finite) = (0, true);
+    for (i, sample) in samples.iter().enumerate() {
+        last = first as u128 + i as u128;
+        if inside != 0 || last % bins.decimation as u128 == 0 {
+            inside += 1;
+            finite = finite && finite32(sample.to_bits());
+        }
+        if inside == bins.frame * bins.decimation {
+            break;
+        }
+    }
+    require(last < LIMIT as u128, TOO_LARGE)?;
+    require(finite, NOT_FINITE)
 }
 
 fn scoring(w: &World, bins: &Bins) -> Judged {

@@ -7,7 +7,7 @@ use crate::lent::Lent;
 use crate::lists::Lists;
 use crate::random::Random;
 use crate::scans::beside;
-use crate::scans::calls::observe;
+use crate::scans::calls::{counted, observe};
 use crate::scans::shape::{List, OBSERVED};
 use crate::scans::world::World;
 
@@ -38,6 +38,8 @@ struct Totals {
 struct Stream {
     world: World,
     original: CoarseScan,
+    /// The index of the last near sample that was taken.
+    last: u64,
     rate: u64,
     /// The far samples so far, and by how many the near side follows them.
     played: Vec<f32>,
@@ -53,6 +55,7 @@ impl Stream {
         Stream {
             original: beside::original(&world),
             world,
+            last: 0,
             rate: rate as u64,
             played: Vec::new(),
             delay: random.below(ceiling as u64 * rate as u64 / 1000 + 1),
@@ -68,11 +71,16 @@ impl Stream {
             while index < self.played.len() as u64 {
                 self.near(index, totals)?;
                 index += 1;
+                if random.once_in(20_000) {
+                    // A hole, or none: some samples are left out or come again.
+                    index = (index + random.below(40)).saturating_sub(20);
+                }
             }
             if self.original.finished() {
                 totals.regions += self.original.region().is_some() as u64;
                 self.keep(&[List::State, List::LagSums]);
                 self.original.rearm();
+                self.last = 0;
                 let answer =
                     face::rearm(self.world.state.lent_mut(), self.world.lag_sums.lent_mut());
                 self.agree("rearm", answer, 16, &[List::LagSums])?;
@@ -91,7 +99,7 @@ impl Stream {
         if got != due {
             return Err(format!("{call} answered {got}, not {due}"));
         }
-        let wrong = beside::differs(&self.world, &self.original, lists);
+        let wrong = beside::differs(&self.world, &self.original, self.last, lists);
         wrong.map_or(Ok(()), |what| Err(format!("{call}: {what}")))
     }
 
@@ -119,12 +127,15 @@ impl Stream {
         let heard = self.played.get((index - self.delay.min(index)) as usize);
         let sample = heard.copied().unwrap_or(0.0) * 0.7;
         let finished = self.original.finished();
-        let full = self.original.push_near(sample, index);
+        let full = self.original.push_numbered(&mut self.last, sample, index);
         let w = &mut self.world;
         let answer = face::push_near(w.state.lent_mut(), w.levels.lent_mut(), sample, index);
         totals.pushes += 1;
         if answer < 16 || (answer == 19) != full || (answer == 16) != finished {
             return Err(format!("near push answered {answer}, the Rust {full}"));
+        }
+        if self.world.word(24) != self.last {
+            return Err(format!("the last index is not {}", self.last));
         }
         if !full {
             return Ok(());
@@ -134,6 +145,11 @@ impl Stream {
         self.original.observe();
         totals.frames += 1;
         let answer = observe(&mut self.world);
+        let products = self.original.products(counted(answer));
+        let told = self.world.values.all()[2];
+        if told != products {
+            return Err(format!("observe told {told} products, the Rust {products}"));
+        }
         self.agree("observe", answer, answer.max(16), &OBSERVED)
     }
 }

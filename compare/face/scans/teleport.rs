@@ -84,6 +84,13 @@ pub fn near(random: &mut Random, w: &mut World) {
     w.set_word(13, random.one_of(&[0, 1 << 63, 1.5_f64.to_bits()]));
     w.set_word(14, 0);
     w.set_word(15, first);
+    set_last(w);
+}
+
+/// The last index as the frame under way has it.
+pub fn set_last(w: &mut World) {
+    let taken = w.word(12) * w.word(2) + w.word(14);
+    w.set_word(24, w.word(15) * w.word(2) + taken - 1);
 }
 
 /// All but the last sample of a frame.
@@ -93,6 +100,7 @@ pub fn nearly_full(random: &mut Random, w: &mut World) {
     w.set_word(12, bins.frame - 1);
     w.set_word(13, (choices::level(random) as f64).to_bits());
     w.set_word(14, bins.decimation - random.between(1, 2));
+    set_last(w);
 }
 
 /// A region of any delay, whose correlation is mostly no plain number.

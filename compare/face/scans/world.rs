@@ -1,11 +1,11 @@
-//! A scan as a host holds it: 24 words, the values, the seven buffers and the far samples.
+//! A scan as a host holds it: 25 words, the values, the seven buffers and the far samples.
 
 use super::shape::{Call, List};
 use crate::lent::Lent;
 use crate::lists::lists;
 use crate::rules::Bins;
 
-pub const WORDS: usize = 24;
+pub const WORDS: usize = 25;
 
 pub struct World {
     pub state: Lent<u64>,
@@ -25,7 +25,7 @@ lists!(World, Call, List:
     Prefix prefix, Squares squares, Scores scores, LagSums lag_sums, Samples samples);
 
 impl World {
-    /// A new scan, as document 01 has it.
+    /// A new scan, as the scope paper has it.
     pub fn new(rate: u32, ceiling: u32) -> World {
         let bins = Bins::of(rate as u64, ceiling as u64);
         let mut state = [0; WORDS];
@@ -36,7 +36,7 @@ impl World {
         let sums = |len: u64| Lent::new(len as usize, 0.0_f64);
         World {
             state: Lent::of(&state),
-            values: Lent::new(2, 0),
+            values: Lent::new(3, 0),
             envelope: levels(bins.envelope()),
             levels: levels(bins.frame),
             window: levels(bins.window()),

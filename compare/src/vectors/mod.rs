@@ -21,6 +21,7 @@ pub fn write(what: &str, seed: &str, folder: &str) -> Result<(), String> {
         "demo" => replay::demo_files(random),
         "replay" => replay::files(random),
         "fine" => fine::files(random),
+        "parts" => crate::parts::files(random),
         "scan" => scan::files(random),
         _ => return Err(format!("there are no vectors '{what}'")),
     };

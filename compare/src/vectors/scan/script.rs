@@ -55,6 +55,8 @@ impl Stored {
 
 pub struct Script<'a> {
     pub scan: CoarseScan,
+    /// The index of the last near sample that was taken.
+    last: u64,
     stored: &'a mut Stored,
 }
 
@@ -63,6 +65,7 @@ impl Script<'_> {
         stored.scans += 1;
         let mut script = Script {
             scan: CoarseScan::new(rate, ceiling),
+            last: 0,
             stored,
         };
         script.store(Call::new(MAKE).count(rate as usize).number(ceiling as u64));
@@ -83,7 +86,9 @@ impl Script<'_> {
         let mut taken = 0;
         let mut full = false;
         for sample in signal.samples(place, count) {
-            full = self.scan.push_near(sample, first + taken as u64);
+            full = self
+                .scan
+                .push_numbered(&mut self.last, sample, first + taken as u64);
             taken += 1;
             if full {
                 break;
@@ -108,12 +113,14 @@ impl Script<'_> {
             FrameAnswer::Region(_) => 9,
         };
         self.stored.answers[number] += 1;
-        self.store(Call::new(SCORE).answer(number as u8));
+        let products = self.scan.products(number >= 5);
+        self.store(Call::new(SCORE).answer(number as u8).count(products as usize));
         answer
     }
 
     pub fn rearm(&mut self) {
         self.scan.rearm();
+        self.last = 0;
         self.store(Call::new(REARM));
     }
 
@@ -124,6 +131,7 @@ impl Script<'_> {
 
     pub fn reset(&mut self) {
         self.scan.reset();
+        self.last = 0;
         self.store(Call::new(RESET));
     }
 
@@ -136,6 +144,8 @@ impl Script<'_> {
     pub fn set_near(&mut self, signal: Signal, place: u64, first_bin: u64) {
         let levels = signal.samples(place, self.geometry().frame);
         self.scan.set_near(levels, first_bin);
+        let geometry = self.geometry();
+        self.last = (first_bin + geometry.frame as u64) * geometry.decimation as u64 - 1;
         self.store(Call::new(SET_NEAR).number(first_bin).signal(signal, place));
     }
 
@@ -203,7 +213,7 @@ impl Script<'_> {
         for sums in self.scan.sums() {
             out.u32(hash(sums.iter().flat_map(|sum| halves(sum.to_bits()))));
         }
-        out.u32(0);
+        out.u32(0).u64(self.last);
         if whole {
             self.store_whole();
         }
