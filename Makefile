@@ -12,7 +12,7 @@ programs := replay parts
 # In a tree that came from a dist file there are archives and no crates.
 ifneq ($(wildcard crates),)
 folder := target/archive
-proved_from := crates.txt KIT tools/archive $(shell find crates -path '*_suite' -prune -o -type f -print)
+proved_from := crates.txt KIT tools/archive tools/modules $(shell find crates -path '*_suite' -prune -o -type f -print)
 else
 folder := lib
 endif
