@@ -39,7 +39,6 @@ use replay::Recording;
 use table::{Row, Time};
 
 const RUNS: usize = 15;
-const FOLDER: &str = "target/compare/long";
 /// The most that a replay may take, beside the Rust's.
 const LIMIT: f64 = 2.0;
 
@@ -62,12 +61,17 @@ fn main() {
     table::reading(&replays);
     let empty: Vec<Row> = empty().into_iter().filter(asked).map(|(what, plan)| measured(what, plan, 100)).collect();
     table::work("Buffers made and cleared: a replay of no event", &empty);
-    std::fs::remove_dir_all(FOLDER).expect(FOLDER);
+    std::fs::remove_dir_all(folder()).expect("the recordings can be removed");
     let above: Vec<&Row> = replays.iter().filter(|row| row.ratio() > LIMIT).collect();
     for row in &above {
         println!("above {LIMIT:.1}: {}, {:.2}", row.what, row.ratio());
     }
     std::process::exit((limited && !above.is_empty()) as i32);
+}
+
+/// Where this run's recordings are.
+fn folder() -> String {
+    format!("target/compare/long-{}", std::process::id())
 }
 
 fn usage() -> ! {
@@ -135,7 +139,7 @@ fn timed(inputs: &mut Inputs, turns: u32, run: fn(&mut Inputs) -> Vec<u8>) -> (T
 /// The three sides in turn, each first in every third run. Every log of ours must be the oracle's, byte for byte; the Rust's tell less, and must have its number of lines.
 fn measured(what: String, plan: Plan, turns: u32) -> Row {
     let recording: Recording = Long::new(1, plan).whole();
-    let mut inputs = Inputs::of(FOLDER, &recording);
+    let mut inputs = Inputs::of(&folder(), &recording);
     let start = clock::now();
     let due = replay::log(&recording).into_bytes();
     let oracle = (clock::now() - start).as_secs_f64();
