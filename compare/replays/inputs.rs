@@ -1,9 +1,10 @@
 //! The three files of a recording. Both sides read them through here, so that reading is timed apart from the rest.
 
+use crate::clock;
 use crate::replay::Recording;
 use std::fs::File;
 use std::io::{Read, Seek};
-use std::time::{Duration, Instant};
+use std::time::Duration;
 
 pub struct Inputs {
     files: [File; 3],
@@ -39,9 +40,9 @@ impl Inputs {
 
     /// One read of file 0, 1 or 2.
     pub fn read(&mut self, which: usize, into: &mut [u8]) -> usize {
-        let start = Instant::now();
+        let start = clock::now();
         let count = self.files[which].read(into).expect("a file can be read");
-        self.reading += start.elapsed();
+        self.reading += clock::now() - start;
         count
     }
 }

@@ -1,4 +1,5 @@
-//! Whole replays in one process: the replay program of this tree beside a replay in Rust that does what the unchanged scan and tracker need, and no more.
+//! Whole replays in one process: the replay program of this tree beside a replay in Rust that does what the unchanged scan and tracker need, and no more, and beside one that also makes the scope
+//! paper's tests. Times are of the processor, not of the clock on the wall.
 
 #[path = "../../target/compare/original/coarse.rs"]
 #[allow(dead_code)]
@@ -26,88 +27,139 @@ mod replay;
 #[allow(dead_code)]
 mod signal;
 
+mod clock;
 mod inputs;
 mod ours;
 mod rust;
+mod table;
 
 use inputs::Inputs;
-use random::Random;
-use replay::recordings::long;
+use replay::recordings::long::{Long, Plan, What};
 use replay::Recording;
-use std::time::{Duration, Instant};
+use table::{Row, Time};
 
 const RUNS: usize = 15;
-const FOLDER: &str = "target/compare/long";
+/// The most that a replay may take, beside the Rust's.
+const LIMIT: f64 = 2.0;
 
 fn main() {
     let words: Vec<String> = std::env::args().skip(1).collect();
-    let minutes = match &words[..] {
-        [] => 10,
-        [minutes] => minutes.parse().unwrap_or_else(|_| usage()),
+    let words: Vec<&str> = words.iter().map(String::as_str).collect();
+    let (limited, words) = match words[..] {
+        ["limit", ref rest @ ..] => (true, rest),
+        ref rest => (false, rest),
+    };
+    let (minutes, only) = match *words {
+        [] => (10, ""),
+        [minutes] => (minutes.parse().unwrap_or_else(|_| usage()), ""),
+        [minutes, only] => (minutes.parse().unwrap_or_else(|_| usage()), only),
         _ => usage(),
     };
-    let what = |which: &str| format!("replay of {minutes} minutes at 48,000 / 500, {which}");
-    let random = &mut Random::new(1);
-    rows(&what("always searching"), &long::working(random, minutes));
-    rows(&what("a region at once"), &long::found(random, minutes));
-    rows("replay of no event: buffers made and cleared", &long::working(random, 0));
-    std::fs::remove_dir_all(FOLDER).expect(FOLDER);
+    let asked = |(what, _): &(String, Plan)| what.contains(only);
+    let replays: Vec<Row> = plans(minutes).into_iter().filter(asked).map(|(what, plan)| measured(what, plan, 1)).collect();
+    table::work("Replay", &replays);
+    table::reading(&replays);
+    let empty: Vec<Row> = empty().into_iter().filter(asked).map(|(what, plan)| measured(what, plan, 100)).collect();
+    table::work("Buffers made and cleared: a replay of no event", &empty);
+    std::fs::remove_dir_all(folder()).expect("the recordings can be removed");
+    let above: Vec<&Row> = replays.iter().filter(|row| row.ratio() > LIMIT).collect();
+    for row in &above {
+        println!("above {LIMIT:.1}: {}, {:.2}", row.what, row.ratio());
+    }
+    std::process::exit((limited && !above.is_empty()) as i32);
+}
+
+/// Where this run's recordings are.
+fn folder() -> String {
+    format!("target/compare/long-{}", std::process::id())
 }
 
 fn usage() -> ! {
-    eprintln!("replays [MINUTES]: times whole replays beside the Rust's, of recordings so long (default 10)");
+    eprintln!("replay-times [limit] [MINUTES [WORDS]]: times whole replays beside the Rust's, of recordings up to so long (default 10), or of those alone in whose names the words stand;");
+    eprintln!("with limit it ends with 1 if one of them takes more than {LIMIT:.1} times as long");
     std::process::exit(2);
 }
 
-/// What one run took, without its reading and with nothing else.
-struct Time {
-    work: f64,
-    reading: f64,
-}
-
-fn timed(inputs: &mut Inputs, run: impl FnOnce(&mut Inputs) -> Vec<u8>) -> (Time, Vec<u8>) {
-    inputs.rewind();
-    let start = Instant::now();
-    let log = run(inputs);
-    let seconds = |time: Duration| time.as_secs_f64();
-    let reading = seconds(inputs.reading);
-    let work = seconds(start.elapsed()) - reading;
-    (Time { work, reading }, log)
-}
-
-/// Both sides in turn, each first in every second run: a row of what they do and one of what they read.
-fn rows(what: &str, recording: &Recording) {
-    let mut inputs = Inputs::of(FOLDER, recording);
-    let due = replay::log(recording).into_bytes();
-    let (mut here, mut there) = (Vec::new(), Vec::new());
-    for run in 0..RUNS {
-        for side in [run % 2, (run + 1) % 2] {
-            if side == 0 {
-                let (time, log) = timed(&mut inputs, ours::replay);
-                assert!(log == due, "{what}: the log is another than the original's");
-                here.push(time);
-            } else {
-                let (time, log) = timed(&mut inputs, rust::replay);
-                assert!(lines(&log) == lines(&due), "{what}: the Rust has other lines");
-                there.push(time);
+/// The recordings, with their names. Events of few samples make long files, so that those recordings are shorter.
+fn plans(minutes: u64) -> Vec<(String, Plan)> {
+    let mut plans = Vec::new();
+    for (event, part) in [(1, 20), (16, 4), (64, 2), (480, 1), (4_096, 1)] {
+        for what in [What::Working, What::Found] {
+            plans.push(plan(what, 48_000, 500, event, 60 * minutes / part));
+        }
+    }
+    for rate in [8_000, 48_000, 192_000] {
+        for ceiling in [500, 4_000] {
+            for what in [What::Working, What::Found] {
+                if (rate, ceiling) != (48_000, 500) {
+                    // a fourth of the time where every lag of the longer span is scored, or four times the samples come
+                    let part = if rate == 192_000 || (ceiling == 4_000 && what == What::Working) { 4 } else { 1 };
+                    plans.push(plan(what, rate, ceiling, 480, 60 * minutes / part));
+                }
             }
         }
     }
-    row(what, &here, &there, |time| time.work);
-    if recording.near.len() > 0 {
-        row("reading its files, not in the time above", &here, &there, |time| time.reading);
+    let length = 200_000 * minutes;
+    let cycles = Plan { what: What::Cycles, rate: 48_000, ceiling: 500, event: 1, length };
+    plans.push((format!("cycles only, {length} of them"), cycles));
+    plans
+}
+
+fn plan(what: What, rate: u32, ceiling: u32, event: u64, seconds: u64) -> (String, Plan) {
+    let which = match what {
+        What::Working => "always searching",
+        What::Found => "a region at once",
+        What::Cycles => "cycles only",
+    };
+    let length = rate as u64 * seconds / event * event;
+    let name = format!("{which}, {rate} Hz, ceiling {ceiling}, events of {event}, {seconds} s");
+    (name, Plan { what, rate, ceiling, event, length })
+}
+
+fn empty() -> Vec<(String, Plan)> {
+    let settings = [(8_000, 500), (48_000, 500), (192_000, 4_000)];
+    let plan = |(rate, ceiling)| Plan { what: What::Found, rate, ceiling, event: 480, length: 0 };
+    settings.map(|setting| (format!("no event, {} Hz, ceiling {}", setting.0, setting.1), plan(setting))).into()
+}
+
+/// So many replays one after the other, as one time.
+fn timed(inputs: &mut Inputs, turns: u32, run: fn(&mut Inputs) -> Vec<u8>) -> (Time, Vec<u8>) {
+    let (mut time, mut log) = (Time::default(), Vec::new());
+    for _ in 0..turns {
+        inputs.rewind();
+        let start = clock::now();
+        log = run(inputs);
+        let reading = inputs.reading.as_secs_f64();
+        time.work += (clock::now() - start).as_secs_f64() - reading;
+        time.reading += reading;
     }
+    (Time { work: time.work / turns as f64, reading: time.reading / turns as f64 }, log)
+}
+
+/// The three sides in turn, each first in every third run. Every log of ours must be the oracle's, byte for byte; the Rust's tell less, and must have its number of lines.
+fn measured(what: String, plan: Plan, turns: u32) -> Row {
+    let recording: Recording = Long::new(1, plan).whole();
+    let mut inputs = Inputs::of(&folder(), &recording);
+    let start = clock::now();
+    let due = replay::log(&recording).into_bytes();
+    let oracle = (clock::now() - start).as_secs_f64();
+    drop(recording);
+    let sides: [fn(&mut Inputs) -> Vec<u8>; 3] = [ours::replay, rust::replay, rust::refusing];
+    let mut times: [Vec<Time>; 3] = Default::default();
+    for run in 0..RUNS {
+        for side in [0, 1, 2].map(|side| (run + side) % 3) {
+            let (time, log) = timed(&mut inputs, turns, sides[side]);
+            match side {
+                0 => assert!(log == due, "{what}: the log is another than the oracle's"),
+                _ => assert!(lines(&log) == lines(&due), "{what}: the Rust has other lines"),
+            }
+            times[side].push(time);
+        }
+    }
+    eprintln!("timed: {what}");
+    Row { what, times, oracle }
 }
 
 fn lines(log: &[u8]) -> usize {
     log.iter().filter(|&&byte| byte == b'\n').count()
-}
-
-fn row(what: &str, here: &[Time], there: &[Time], part: impl Fn(&Time) -> f64) {
-    let least = |times: &[Time]| times.iter().map(&part).fold(f64::MAX, f64::min);
-    let (ours, rust) = (least(here), least(there));
-    let mut ratios: Vec<f64> = here.iter().zip(there).map(|(a, b)| part(a) / part(b)).collect();
-    ratios.sort_by(f64::total_cmp);
-    let (told, median) = (|seconds: f64| format!("{:.3} ms", 1_000.0 * seconds), ratios[ratios.len() / 2]);
-    println!("| {what} | {} | {} | {:.2} | {median:.2} |", told(ours), told(rust), ours / rust);
 }

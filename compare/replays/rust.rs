@@ -1,8 +1,9 @@
-//! A replay in Rust around the unchanged scan and tracker. It judges nothing: its recordings are good, and what the original does not test is not tested here.
-//! It reads as our program does, in pieces of 65,536 bytes, and writes a line for each frame and cycle with what the original tells of it.
+//! Replays in Rust around the unchanged scan and tracker, over good recordings. They read as our program does, in pieces of 65,536 bytes, and write a line for each frame and cycle with what the
+//! original tells of it. `replay` judges nothing: what the original does not test is not tested. `refusing` makes the scope paper's tests too: of header, events and totals, of samples and of indices.
 
 use crate::coarse::CoarseScan;
 use crate::inputs::Inputs;
+use crate::replay::{EVENT_LEN, HEADER_LEN, LIMIT, MOST_SAMPLES};
 use crate::track::{CycleOutcome, Tracker};
 use std::io::Write;
 
@@ -62,9 +63,23 @@ struct Run {
 }
 
 pub fn replay(inputs: &mut Inputs) -> Vec<u8> {
+    play::<false>(inputs)
+}
+
+pub fn refusing(inputs: &mut Inputs) -> Vec<u8> {
+    play::<true>(inputs)
+}
+
+fn play<const REFUSES: bool>(inputs: &mut Inputs) -> Vec<u8> {
     let (mut events, mut far, mut near) = (Stream::new(0), Stream::new(1), Stream::new(2));
-    let header = events.next(inputs, 24);
-    let (rate, ceiling, count) = (u32_at(header, 0), u32_at(header, 4), u32_at(header, 8));
+    let header = events.next(inputs, HEADER_LEN);
+    let field = |at: usize| u32_at(header, 4 * at);
+    let (rate, ceiling, count, offset) = (field(0), field(1), field(2), field(3));
+    let mut left = [field(4), field(5)];
+    if REFUSES {
+        let allowed = (8000..=192_000).contains(&rate) && (1..=4000).contains(&ceiling);
+        assert!(allowed && offset == HEADER_LEN as u32, "a bad header");
+    }
     let mut run = Run {
         scan: CoarseScan::new(rate, ceiling as u16),
         tracker: Tracker::new(rate),
@@ -74,32 +89,65 @@ pub fn replay(inputs: &mut Inputs) -> Vec<u8> {
     };
     writeln!(run.log, "replay rate {rate} ceiling {ceiling}").unwrap();
     let mut samples = Vec::new();
-    for _ in 0..count {
-        let event = events.next(inputs, 16);
-        let (kind, count) = (u32_at(event, 0), u32_at(event, 4) as usize);
+    for at in 0..count {
+        let event = events.next(inputs, EVENT_LEN);
+        let (kind, count) = (u32_at(event, 0), u32_at(event, 4));
         let number = u64::from_le_bytes(event[8..16].try_into().unwrap());
+        if REFUSES {
+            assert!(good(kind, count, number, &mut left), "bad event {at}");
+        }
         match kind {
             1 => {
-                far.samples(inputs, count, &mut samples);
+                far.samples(inputs, count as usize, &mut samples);
+                if REFUSES && !samples.iter().all(|sample| sample.is_finite()) {
+                    writeln!(run.log, "event {at} refused 4").unwrap();
+                    continue;
+                }
                 run.scan.push_far(&samples);
             }
             2 => {
-                near.samples(inputs, count, &mut samples);
-                run.near(&samples, number);
+                near.samples(inputs, count as usize, &mut samples);
+                if let Err(refusal) = run.near::<REFUSES>(&samples, number) {
+                    writeln!(run.log, "event {at} refused {refusal}").unwrap();
+                }
             }
             3 => run.scan.rearm(),
             4 => run.scan.discard_near(),
             8 => run.tracker.on_discontinuity(),
-            kind => run.cycle(kind, count, number as usize),
+            _ if REFUSES && number >= LIMIT => writeln!(run.log, "event {at} refused 5").unwrap(),
+            kind => run.cycle(kind, count as usize, number as usize),
         }
     }
+    assert!(!REFUSES || left == [0, 0], "bad totals");
     writeln!(run.log, "end frames {} cycles {}", run.frames, run.cycles).unwrap();
     run.log
 }
 
+/// The scope paper's tests of an event; the samples that it takes are no longer left.
+fn good(kind: u32, count: u32, number: u64, left: &mut [u32; 2]) -> bool {
+    match kind {
+        1 | 2 => {
+            let left = &mut left[kind as usize - 1];
+            let good = (1..=MOST_SAMPLES).contains(&count) && (kind == 2 || number == 0) && count <= *left;
+            *left = left.wrapping_sub(count);
+            good
+        }
+        3 | 4 | 5 | 8 => count == 0 && number == 0,
+        kind => kind == 6 || kind == 7,
+    }
+}
+
 impl Run {
-    fn near(&mut self, samples: &[f32], first: u64) {
+    fn near<const REFUSES: bool>(&mut self, samples: &[f32], first: u64) -> Result<(), u8> {
         for (index, &sample) in (first..).zip(samples) {
+            if REFUSES && !self.scan.finished() {
+                if index >= LIMIT {
+                    return Err(5);
+                }
+                if !sample.is_finite() {
+                    return Err(4);
+                }
+            }
             if self.scan.push_near(sample, index) {
                 self.scan.observe();
                 let peak = self.scan.correlation().to_bits();
@@ -107,6 +155,7 @@ impl Run {
                 self.frames += 1;
             }
         }
+        Ok(())
     }
 
     fn cycle(&mut self, kind: u32, alignment: usize, delay: usize) {

@@ -24,6 +24,11 @@ mod replay;
 mod signal;
 mod vectors;
 
+use replay::maker::header;
+use replay::recordings::long::{Long, Plan, What};
+use replay::HEADER_LEN;
+use std::io::{Seek, Write};
+
 const USAGE: &str = "\
 compare vectors tracker SEED FOLDER   writes FOLDER/bands and FOLDER/cycles
 compare vectors ring SEED FOLDER      writes FOLDER/calls
@@ -32,6 +37,8 @@ compare vectors fine SEED FOLDER      writes FOLDER/calls and FOLDER/arrays
 compare vectors replay SEED FOLDER    writes index, events, far, near, logs and names of recordings
 compare vectors demo SEED FOLDER      writes events, far, near and log of the demo recording
 compare long WHICH MINUTES FOLDER     writes events, far and near of a long recording: working or found
+compare long WHICH RATE CEILING EVENT LENGTH SEED FOLDER
+                                      the same, so many samples an event and a side; or cycles, so many of them
 compare replay EVENTS FAR NEAR        prints the log of a recording
 compare vectors parts SEED FOLDER     writes index, first, second and logs: pairs of logs, and what is told of them
 compare parts SEED COUNT PROGRAM      runs PROGRAM LOG LOG on random pairs of logs and compares what it prints and its status
@@ -48,7 +55,10 @@ fn main() {
         ["parts", seed, count, program] => parts(seed, count, program),
         ["long-logs", lines, folder] => long_logs(lines, folder),
         ["histories", seed, cycles] => histories(seed, cycles),
-        ["long", which, minutes, folder] => long(which, minutes, folder),
+        ["long", which, minutes, folder] => minutes_long(which, minutes, folder),
+        ["long", which, rate, ceiling, event, length, seed, folder] => {
+            long(which, [rate, ceiling, event, length, seed], folder)
+        }
         ["replay", events, far, near] => print_log(events, far, near),
         _ => Err(USAGE.to_string()),
     };
@@ -86,27 +96,47 @@ fn histories(seed: &str, cycles: &str) -> Result<(), String> {
     histories::run(seed, cycles)
 }
 
-fn long(which: &str, minutes: &str, folder: &str) -> Result<(), String> {
-    let minutes = minutes
+fn minutes_long(which: &str, minutes: &str, folder: &str) -> Result<(), String> {
+    let minutes: u64 = minutes
         .parse()
         .map_err(|_| format!("'{minutes}' is no number of minutes"))?;
-    let mut random = random::Random::new(1);
-    let recording = match which {
-        "working" => replay::recordings::long::working(&mut random, minutes),
-        "found" => replay::recordings::long::found(&mut random, minutes),
-        _ => return Err(format!("there is no long recording '{which}'")),
-    };
-    let sides = [
-        ("events", recording.events),
-        ("far", recording.far),
-        ("near", recording.near),
-    ];
-    std::fs::create_dir_all(folder).map_err(|error| format!("{folder}: {error}"))?;
-    for (name, bytes) in sides {
-        let path = format!("{folder}/{name}");
-        std::fs::write(&path, bytes).map_err(|error| format!("{path}: {error}"))?;
+    let samples = (60 * 48_000 * minutes).to_string();
+    long(which, ["48000", "500", "480", &samples, "1"], folder)
+}
+
+fn long(which: &str, numbers: [&str; 5], folder: &str) -> Result<(), String> {
+    let what = What::named(which).ok_or(format!("there is no long recording '{which}'"))?;
+    let mut parsed = [0; 5];
+    for (number, word) in parsed.iter_mut().zip(numbers) {
+        *number = word.parse().map_err(|_| format!("'{word}' is no number"))?;
     }
-    Ok(())
+    let [rate, ceiling, event, length, seed] = parsed;
+    let plan = Plan {
+        what,
+        rate: rate as u32,
+        ceiling: ceiling as u32,
+        event,
+        length,
+    };
+    std::fs::create_dir_all(folder)
+        .and_then(|()| write_long(Long::new(seed, plan), plan, folder))
+        .map_err(|error| format!("{folder}: {error}"))
+}
+
+/// Piece by piece, the header last.
+fn write_long(mut long: Long, plan: Plan, folder: &str) -> std::io::Result<()> {
+    let file = |name: &str| std::fs::File::create(format!("{folder}/{name}"));
+    let mut files = [file("events")?, file("far")?, file("near")?];
+    files[0].write_all(&[0; HEADER_LEN])?;
+    let mut written = [0; 3];
+    while let Some(piece) = long.piece() {
+        for (at, bytes) in [piece.events, piece.far, piece.near].into_iter().enumerate() {
+            files[at].write_all(&bytes)?;
+            written[at] += bytes.len();
+        }
+    }
+    files[0].rewind()?;
+    files[0].write_all(&header(plan.rate, plan.ceiling, written))
 }
 
 fn print_log(events: &str, far: &str, near: &str) -> Result<(), String> {

@@ -1,6 +1,6 @@
 //! A recording made event by event, its header written last.
 
-use super::{Recording, HEADER_LEN, MOST_SAMPLES};
+use super::{Recording, EVENT_LEN, HEADER_LEN, MOST_SAMPLES};
 use crate::record::Record;
 use crate::signal::Signal;
 
@@ -80,12 +80,11 @@ impl Maker {
     }
 
     pub fn recording(self) -> Recording {
-        let mut events = Record::default();
-        let count = self.events.0.len() / 16;
-        events.u32(self.rate).u32(self.ceiling);
-        events.u32(count as u32).u32(HEADER_LEN as u32);
-        events.u32((self.far.0.len() / 4) as u32);
-        events.u32((self.near.0.len() / 4) as u32);
+        let mut events = Record(header(
+            self.rate,
+            self.ceiling,
+            [&self.events, &self.far, &self.near].map(|record| record.0.len()),
+        ));
         events.0.extend(self.events.0);
         Recording {
             events: events.0,
@@ -93,6 +92,24 @@ impl Maker {
             near: self.near.0,
         }
     }
+
+    /// What was made so far, without a header.
+    pub fn pieces(self) -> Recording {
+        Recording {
+            events: self.events.0,
+            far: self.far.0,
+            near: self.near.0,
+        }
+    }
+}
+
+/// The header of a recording whose events, far and near samples have so many bytes.
+pub fn header(rate: u32, ceiling: u32, bytes: [usize; 3]) -> Vec<u8> {
+    let mut header = Record::default();
+    header.u32(rate).u32(ceiling);
+    header.u32((bytes[0] / EVENT_LEN) as u32).u32(HEADER_LEN as u32);
+    header.u32((bytes[1] / 4) as u32).u32((bytes[2] / 4) as u32);
+    header.0
 }
 
 pub fn patterns(signal: Signal, place: u64, count: u64) -> Vec<u32> {
