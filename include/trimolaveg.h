@@ -121,7 +121,7 @@ uint32_t tmv_version(void);
 #define TMV_VERDICT_REACQUIRE_JUMP 20  /* tracker::Trigger::Jump: search again; candidates contradict each other */
 #define TMV_VERDICT_REACQUIRE_SEAM 21  /* tracker::Trigger::Seam: search again; the lock was not confirmed after a discontinuity */
 
-/* from tmv_fine_push_near */
+/* from tmv_fine_push_near and tmv_fine_push_near_run */
 #define TMV_FINE_TAKEN 16 /* fine_gate::Taking::Taken */
 #define TMV_FINE_FULL 17  /* fine_gate::Taking::Full: taken as the frame's last sample; call tmv_fine_gate next */
 
@@ -180,7 +180,7 @@ uint64_t tmv_magnitude(uint64_t bits);
 /* ---- the far reference ring. Samples are f32 bit patterns of any kind, NaNs too.
  *
  * Words: 0 samples accepted in all, at most 2^62 (a rule). The buffer is lent with every call; its length, 1 or more, is the capacity.
- * Every call refuses with 2 if state or values do not have 1 word or the buffer has length 0, and with 3 if more than 2^62 samples were accepted.
+ * Every call refuses with 2 if state or values do not have 1 word (2 values for a window) or the buffer has length 0, and with 3 if more than 2^62 samples were accepted.
  * Making a ring does not look at what the words held before. The same goes for the other states. */
 
 uint64_t tmv_ring_words(void);
@@ -191,11 +191,22 @@ uint32_t tmv_ring_new(uint64_t *state, size_t state_len, const uint32_t *buf, si
 /* Appends samples, overwriting the oldest ones kept. Also refuses with 5 if the count would pass 2^62; then it stores none of them. */
 uint32_t tmv_ring_push(uint64_t *state, size_t state_len, uint32_t *buf, size_t buf_len, const uint32_t *samples, size_t samples_len);
 
+/* Does the same with floats, each stored as its pattern. Every NaN is stored as 0x7FC00000; tmv_ring_push keeps the bits of a NaN. */
+uint32_t tmv_ring_push_floats(uint64_t *state, size_t state_len, uint32_t *buf, size_t buf_len, const float *samples, size_t samples_len);
+
 /* Returns the ring to the state in which it was made. */
 uint32_t tmv_ring_clear(uint64_t *state, size_t state_len, const uint32_t *buf, size_t buf_len);
 
 /* Tells where in buf the sample with absolute index `at` is, if it is kept. Refuses no index. */
 uint32_t tmv_ring_get(const uint64_t *state, size_t state_len, const uint32_t *buf, size_t buf_len, uint64_t at, uint64_t *values, size_t values_len);
+
+/* Reads the whole window that begins `back` samples before absolute index `at`: its place i is index at + i - back, with 0 where no sample is kept. values: 2 words, how many samples are
+ * missing at its head (before the stream's first, or overwritten) and at its tail (not pushed yet). Refuses no index; the window may have any length. A fine stage's far window is the one with
+ * `at` the index of the near frame's first sample and `back` what tmv_fine_window_back_off reports. */
+uint32_t tmv_ring_window(const uint64_t *state, size_t state_len, const uint32_t *buf, size_t buf_len, uint64_t at, uint64_t back, uint32_t *window, size_t window_len, uint64_t *values, size_t values_len);
+
+/* Reads the same window as floats. A NaN's pattern is read as a NaN, whose payload is not said. */
+uint32_t tmv_ring_window_floats(const uint64_t *state, size_t state_len, const uint32_t *buf, size_t buf_len, uint64_t at, uint64_t back, float *window, size_t window_len, uint64_t *values, size_t values_len);
 
 /* Report the absolute index of the next sample; the capacity; and how many samples were overwritten since the ring was made or last cleared. */
 uint32_t tmv_ring_next_abs(const uint64_t *state, size_t state_len, const uint32_t *buf, size_t buf_len, uint64_t *values, size_t values_len);
@@ -293,6 +304,9 @@ uint64_t tmv_fine_frame_len(uint32_t span);
 uint64_t tmv_fine_window_len(uint32_t span);
 uint64_t tmv_fine_correlation_len(uint32_t span);
 
+/* Returns the length of the host's transform; 0 outside the table. */
+uint64_t tmv_fine_transform_len(uint32_t span);
+
 /* Makes a new state that searches delays 0 to span. */
 uint32_t tmv_fine_new(uint64_t *state, size_t state_len, uint32_t span);
 
@@ -307,6 +321,10 @@ uint32_t tmv_fine_reset(uint64_t *state, size_t state_len);
 
 /* Takes one near sample. Also refuses with 6 if a full frame waits, and with 4 if the sample is not finite. */
 uint32_t tmv_fine_push_near(uint64_t *state, size_t state_len, float *near_frame, size_t near_frame_len, float sample);
+
+/* Takes consecutive near samples up to the one that completes the frame, as single calls would. values: 1 word, how many were taken. Also refuses with 6 if a full frame waits, and with 4 if one of
+ * the samples that would be taken is not finite; it takes none of them then. A run of none is answered with TMV_FINE_TAKEN, 0 of them, even while a full frame waits. */
+uint32_t tmv_fine_push_near_run(uint64_t *state, size_t state_len, float *near_frame, size_t near_frame_len, const float *samples, size_t samples_len, uint64_t *values, size_t values_len);
 
 /* Says whether the full near frame counts, and consumes it. Copies a frame that counts to the retained frame. Also refuses with 7 if no frame is full, and with 4 if a near
  * or far sample is not finite (not judged if the frame is skipped). */

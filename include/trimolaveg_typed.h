@@ -468,6 +468,18 @@ TMV_CALL tmvt_fine_push_near(struct tmv_fine *fine, float sample, enum tmv_fine_
     return tmvt_refusal_of(number);
 }
 
+/* Takes near samples up to the one that completes the frame; `taken` is how many. */
+TMV_CALL tmvt_fine_push_near_run(struct tmv_fine *fine, const float *samples, size_t count, enum tmv_fine_taking *taking, size_t *taken)
+{
+    uint64_t values[1] = {0};
+    const uint32_t number = tmv_fine_push_near_run(fine->state, TMV_FINE_WORDS, fine->near_frame, fine->near_len, samples, count, values, 1);
+    if (tmvt_answered(number)) {
+        *taking = (enum tmv_fine_taking)number;
+        *taken = (size_t)values[0];
+    }
+    return tmvt_refusal_of(number);
+}
+
 TMV_CALL tmvt_fine_gate(struct tmv_fine *fine, const float *far_window, size_t far_len, uint64_t missing_head, uint64_t missing_tail, enum tmv_gate *gate)
 {
     const uint32_t number = tmv_fine_gate(fine->state, TMV_FINE_WORDS, fine->near_frame, fine->near_len, fine->retained, fine->retained_len, far_window, far_len, missing_head, missing_tail);
@@ -645,6 +657,12 @@ TMV_CALL tmvt_ring_push(struct tmv_ring *ring, const uint32_t *samples, size_t c
     return tmvt_refusal_of(tmv_ring_push(ring->state, TMV_RING_WORDS, ring->buf, ring->buf_len, samples, count));
 }
 
+/* Appends floats; every NaN is stored as 0x7FC00000. */
+TMV_CALL tmvt_ring_push_floats(struct tmv_ring *ring, const float *samples, size_t count)
+{
+    return tmvt_refusal_of(tmv_ring_push_floats(ring->state, TMV_RING_WORDS, ring->buf, ring->buf_len, samples, count));
+}
+
 TMV_CALL tmvt_ring_clear(struct tmv_ring *ring)
 {
     return tmvt_refusal_of(tmv_ring_clear(ring->state, TMV_RING_WORDS, ring->buf, ring->buf_len));
@@ -659,6 +677,36 @@ TMV_CALL tmvt_ring_get(const struct tmv_ring *ring, uint64_t at, struct tmv_kept
         kept->sample = number == TMV_RING_KEPT ? tmvt_float(ring->buf[place]) : 0;
     }
     return tmvt_refusal_of(number);
+}
+
+/* How many samples of a window are missing: before its first kept one, and behind its last pushed one. */
+struct tmv_missing {
+    uint64_t head;
+    uint64_t tail;
+};
+
+TMV_CALL tmvt_missing_of(uint32_t number, const uint64_t values[2], struct tmv_missing *missing)
+{
+    if (tmvt_answered(number)) {
+        missing->head = values[0];
+        missing->tail = values[1];
+    }
+    return tmvt_refusal_of(number);
+}
+
+/* Reads the window that begins `back` samples before index `at`, as patterns or as floats. */
+TMV_CALL tmvt_ring_window(const struct tmv_ring *ring, uint64_t at, uint64_t back, uint32_t *window, size_t window_len, struct tmv_missing *missing)
+{
+    uint64_t values[2] = {0, 0};
+    const uint32_t number = tmv_ring_window(ring->state, TMV_RING_WORDS, ring->buf, ring->buf_len, at, back, window, window_len, values, 2);
+    return tmvt_missing_of(number, values, missing);
+}
+
+TMV_CALL tmvt_ring_window_floats(const struct tmv_ring *ring, uint64_t at, uint64_t back, float *window, size_t window_len, struct tmv_missing *missing)
+{
+    uint64_t values[2] = {0, 0};
+    const uint32_t number = tmv_ring_window_floats(ring->state, TMV_RING_WORDS, ring->buf, ring->buf_len, at, back, window, window_len, values, 2);
+    return tmvt_missing_of(number, values, missing);
 }
 
 TMV_CALL tmvt_ring_next_abs(const struct tmv_ring *ring, uint64_t *index)

@@ -14,7 +14,7 @@ import sys
 ROOT = pathlib.Path(__file__).resolve().parent.parent
 CRATES = ROOT / "crates"
 # The crates whose calls a host makes.
-CALLED = ["floats", "ring", "tracker", "scan_calls", "scan_push", "scan_runs", "scan_handover", "scan_score", "fine", "fine_gate", "fine_peak", "log_lines", "log_text", "log_parts", "log_passes", "log_report", "recording", "replay", "replay_next", "version_face", "floats_face", "ring_face", "tracker_face", "fine_face", "scan_face", "scan_handover_face"]
+CALLED = ["floats", "ring", "tracker", "scan_calls", "scan_push", "scan_runs", "scan_handover", "scan_score", "fine", "fine_gate", "fine_handover", "fine_peak", "ring_window", "log_lines", "log_text", "log_parts", "log_passes", "log_report", "recording", "replay", "replay_next", "version_face", "floats_face", "ring_face", "tracker_face", "fine_face", "scan_face", "scan_handover_face", "fine_handover_face", "ring_window_face"]
 # Public only for the crates above them; a host calls none of these. Each is pinned by an equation in its contract all the same.
 INNER = {
     "floats": ["bits.rt"],
@@ -22,6 +22,7 @@ INNER = {
     "scan_push": ["far.rt", "level.rt", "near.rt", "sums.rt"],
     "scan_handover": ["fill.rt", "part.rt"],
     "scan_score": ["refusal.rt", "window.rt"],
+    "ring_window": ["cutting.rt", "patterns.rt", "storing.rt", "values.rt"],
     "log_lines": ["put", "put_line", "put_number", "put_numbers"],
     "tracker": ["evidence"],
     "fine": ["of", "with_frames"],
@@ -125,8 +126,10 @@ def public_calls(crate):
 
 
 def plain(crate, call):
-    """A call's name in its theorems: for the C face without the prefix."""
-    return call.removeprefix("tmv_").removeprefix(crate.removesuffix("_face") + "_").replace("_", "-")
+    """A call's name in its theorems: for the C face without the prefix that all calls of its crate have."""
+    prefix = "tmv_" + crate.removesuffix("_face") + "_"
+    shared = all(other.startswith(prefix) for other, _ in public_calls(crate))
+    return call.removeprefix(prefix if shared else "tmv_").replace("_", "-")
 
 
 def theorems(crate, call):
@@ -147,8 +150,9 @@ def determined(crates):
         "Each public call's contract admits one result, and one list in each lent buffer. The theorems stand in `proofs/Determined.antt` of the call's crate; each is",
         "about the contract alone, so it fails when somebody weakens an `ensures`. This page is written by `tests/promises.py --write` and held to the tree by `./test`.",
         "",
-        "One thing no contract here can tell: which of the NaN patterns stands in a lent float buffer. The logic has one NaN, so that an element which stays a NaN is fixed up to its payload. No call",
-        "writes a NaN; `compare/face` holds every lent buffer to its bits, with signalling and payload NaNs in all of them (docs/DECISIONS.md says what it would cost to have this in the contracts).",
+        "One thing no contract here can tell: which of the NaN patterns stands in a lent float buffer. The logic has one NaN, so that an element which stays a NaN is fixed up to its payload. Only",
+        "`tmv_ring_window_floats` (`window_floats`) writes a NaN, where the ring holds one: its contract fixes that the float is a NaN, and every other float to the bit; `tmv_ring_window` gives the NaN's own bits.",
+        "`compare/face` holds every other lent buffer to its bits, with signalling and payload NaNs in all of them (docs/DECISIONS.md says what it would cost to have this in the contracts).",
         "",
         "| Call | Theorems |",
         "|---|---|",

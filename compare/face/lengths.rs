@@ -66,20 +66,21 @@ fn scan_lengths(rate: u32, ceiling: u32) -> [u64; 5] {
     ]
 }
 
-fn told_fine(span: u32) -> [u64; 3] {
+fn told_fine(span: u32) -> [u64; 4] {
     use face::fine as f;
     [
         f::frame_len(span),
         f::window_len(span),
         f::correlation_len(span),
+        f::transform_len(span),
     ]
 }
 
-fn fine_lengths(span: u32) -> [u64; 3] {
+fn fine_lengths(span: u32) -> [u64; 4] {
     let span = span as u64;
     if !rules::allowed_span(span) {
-        return [0; 3];
+        return [0; 4];
     }
     let lengths = Lengths::of(span);
-    [lengths.frame, lengths.window, span + 1]
+    [lengths.frame, lengths.window, span + 1, lengths.transform]
 }

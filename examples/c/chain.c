@@ -22,7 +22,7 @@ extern uint64_t alignment; /* in samples, once there was a lock */
 extern bool locked;
 void begin(void);
 void played(const float samples[BLOCK]);
-void captured(float sample);
+void captured(const float *samples, size_t count);
 void cut(uint64_t index);
 
 static TMV_SCAN_KEPT(RATE, CEILING) scan_kept;
@@ -56,23 +56,15 @@ static bool agree(uint64_t delay, uint64_t region)
     return delay >= region ? delay - region <= MS(32) : region - delay <= MS(128);
 }
 
-/* The far samples that may have caused the frame that has just ended, and how many of them there are not. */
-static void read_window(uint64_t *missing_head, uint64_t *missing_tail)
+/* Reads the far samples that may have caused the frame that has just ended. Returns how many of them there are not. */
+static struct tmv_missing read_window(void)
 {
-    uint64_t back_off = 0, end = 0;
+    struct tmv_missing missing = {0, 0};
+    uint64_t back_off = 0;
 
     must(tmvt_fine_window_back_off(&fine, &back_off));
-    must(tmvt_ring_next_abs(&ring, &end));
-    *missing_head = *missing_tail = 0;
-    for (uint64_t i = 0; i < TRANSFORM; i++) {
-        const int64_t at = (int64_t)(next + i) - (int64_t)(FRAME + back_off);
-        struct tmv_kept far_sample = {false, 0};
-        if (at >= 0)
-            must(tmvt_ring_get(&ring, (uint64_t)at, &far_sample));
-        window[i] = far_sample.sample;
-        if (!far_sample.kept)
-            ++*(at >= (int64_t)end ? missing_tail : missing_head);
-    }
+    must(tmvt_ring_window_floats(&ring, next - FRAME, back_off, window, TRANSFORM, &missing));
+    return missing;
 }
 
 static void search_from(uint64_t delay, uint64_t before)
@@ -111,10 +103,9 @@ static struct tmv_candidate rescan(void)
 {
     struct tmv_candidate found = {false, 0, 0, 0, 0};
     enum tmv_rescan answer = TMVT_RESCAN_SKIPPED;
-    uint64_t missing_head, missing_tail;
+    const struct tmv_missing missing = read_window();
 
-    read_window(&missing_head, &missing_tail);
-    must(tmvt_fine_rescan(&fine, window, TRANSFORM, missing_head, missing_tail, &answer));
+    must(tmvt_fine_rescan(&fine, window, TRANSFORM, missing.head, missing.tail, &answer));
     if (answer == TMVT_RESCAN_TAKEN) {
         cross(fine.retained, window, APART);
         must(tmvt_fine_peak(&fine, correlation(), TRANSFORM, &found));
@@ -182,11 +173,10 @@ static void fine_frame(void)
 {
     struct tmv_candidate found = {false, 0, 0, 0, 0};
     enum tmv_gate gate = TMVT_GATE_SKIPPED;
-    uint64_t missing_head, missing_tail;
+    const struct tmv_missing missing = read_window();
     bool finished = false;
 
-    read_window(&missing_head, &missing_tail);
-    must(tmvt_fine_gate(&fine, window, TRANSFORM, missing_head, missing_tail, &gate));
+    must(tmvt_fine_gate(&fine, window, TRANSFORM, missing.head, missing.tail, &gate));
     const bool taken = gate == TMVT_GATE_FIRST || gate == TMVT_GATE_LATER;
     if (taken)
         cross(fine.retained, window, gate == TMVT_GATE_FIRST ? NEW_SUM : ADDED);
@@ -213,27 +203,36 @@ void begin(void)
 
 void played(const float samples[BLOCK])
 {
-    uint32_t patterns[BLOCK];
-
     must(tmvt_scan_push_far(&scan, samples, BLOCK));
-    memcpy(patterns, samples, sizeof patterns);
-    must(tmvt_ring_push(&ring, patterns, BLOCK));
+    must(tmvt_ring_push_floats(&ring, samples, BLOCK));
 }
 
-void captured(float sample)
+/* Near samples for the scan, from index `next` on. Each frame is scored as soon as it is full. */
+static void scan_run(const float *samples, size_t count)
 {
-    enum tmv_taking taking = TMVT_TAKING_IGNORED;
-    enum tmv_fine_taking fine_taking = TMVT_FINE_TAKEN;
-    struct tmv_frame frame;
+    for (size_t done = 0, taken = 0; done < count; done += taken) {
+        enum tmv_taking taking = TMVT_TAKING_IGNORED;
+        struct tmv_frame frame;
+        taken = count - done; /* of a refused run none is offered again */
+        must(tmvt_scan_push_near_run(&scan, samples + done, count - done, next + done, &taking, &taken));
+        if (taking == TMVT_TAKING_FULL)
+            must(tmvt_scan_observe(&scan, &frame));
+    }
+}
 
-    if (!locked)
-        must(tmvt_scan_push_near(&scan, sample, next, &taking));
-    if (taking == TMVT_TAKING_FULL)
-        must(tmvt_scan_observe(&scan, &frame));
-    must(tmvt_fine_push_near(&fine, sample, &fine_taking));
-    next++;
-    if (fine_taking == TMVT_FINE_FULL)
-        fine_frame();
+/* The fine stage takes samples up to where its frame is full; there the scan must have seen them too. */
+void captured(const float *samples, size_t count)
+{
+    for (size_t done = 0, taken = 0; done < count; done += taken) {
+        enum tmv_fine_taking taking = TMVT_FINE_TAKEN;
+        taken = count - done;
+        must(tmvt_fine_push_near_run(&fine, samples + done, count - done, &taking, &taken));
+        if (!locked)
+            scan_run(samples + done, taken);
+        next += taken;
+        if (taking == TMVT_FINE_FULL)
+            fine_frame();
+    }
 }
 
 /* The capture stream was cut, and goes on at this far index. */

@@ -15,7 +15,7 @@ void host_must(const struct host *host, enum tmv_refusal refusal, const char *ca
 static bool lend(struct host *host)
 {
     const struct settings *set = &host->settings;
-    const size_t transform_len = TMV_FINE_TRANSFORM_LEN(set->span);
+    const size_t transform_len = (size_t)tmv_fine_transform_len(set->span);
     const size_t kept = TMV_SCAN_KEPT_BYTES(set->rate, set->ceiling), scratch = TMV_SCAN_SCRATCH_BYTES(set->rate, set->ceiling), frames = TMV_FINE_KEPT_BYTES(set->span);
 
     host->frame_len = TMV_FINE_FRAME_LEN(set->span);
@@ -75,28 +75,23 @@ static void fine_frame(struct host *host)
 /* The scan comes first: it refuses what the ring would take, and the two must count alike. */
 void host_played(struct host *host, const float *samples, size_t count)
 {
-    uint32_t patterns[64];
-
     MUST(host, tmvt_scan_push_far(&host->scan, samples, count));
-    for (size_t done = 0, now; done < count; done += now) {
-        now = count - done < TMV_COUNT(patterns) ? count - done : TMV_COUNT(patterns);
-        memcpy(patterns, samples + done, now * sizeof *patterns);
-        MUST(host, tmvt_ring_push(&host->ring, patterns, now));
-    }
+    MUST(host, tmvt_ring_push_floats(&host->ring, samples, count));
 }
 
 /* Near samples for the scan, each frame scored as soon as it is full. */
 static void scan_run(struct host *host, const float *samples, size_t count)
 {
-    for (size_t i = 0; i < count; i++) {
+    for (size_t done = 0, taken = 0; done < count; done += taken) {
         enum tmv_taking taking = TMVT_TAKING_IGNORED;
         struct tmv_frame frame;
-        MUST(host, tmvt_scan_push_near(&host->scan, samples[i], host->next + i, &taking));
+        taken = count - done; /* of a refused run none is offered again */
+        MUST(host, tmvt_scan_push_near_run(&host->scan, samples + done, count - done, host->next + done, &taking, &taken));
         if (taking != TMVT_TAKING_FULL)
             continue;
         MUST(host, tmvt_scan_observe(&host->scan, &frame));
         if (frame.kind == TMVT_FRAME_REGION)
-            host->teller->region(host, host->next + i + 1, frame);
+            host->teller->region(host, host->next + done + taken, frame);
     }
 }
 
@@ -104,10 +99,9 @@ static void scan_run(struct host *host, const float *samples, size_t count)
 static size_t fine_run(struct host *host, const float *samples, size_t count, bool *full)
 {
     enum tmv_fine_taking taking = TMVT_FINE_TAKEN;
-    size_t taken = 0;
+    size_t taken = count;
 
-    while (taken < count && taking != TMVT_FINE_FULL)
-        MUST(host, tmvt_fine_push_near(&host->fine, samples[taken++], &taking));
+    MUST(host, tmvt_fine_push_near_run(&host->fine, samples, count, &taking, &taken));
     *full = taking == TMVT_FINE_FULL;
     return taken;
 }

@@ -103,7 +103,8 @@ static void room(const char *name, int64_t early, int64_t late, uint64_t lost)
             continue;
         const int64_t delay = at < LENGTH / 2 ? early : late;
         const float echo = delay < 0 || at < (uint64_t)delay ? 0 : sound[at - (uint64_t)delay] * 0.5f;
-        captured(echo + talk[at] * 0.1f);
+        const float heard = echo + talk[at] * 0.1f;
+        captured(&heard, 1);
         if (locked != was_locked || (locked && alignment != was))
             printf("  %6.3f s: %s %llu\n", (double)(at + 1) / RATE, !locked ? "given up" : was_locked ? "move" : "lock", (unsigned long long)alignment);
         was_locked = locked;

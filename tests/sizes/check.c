@@ -17,7 +17,7 @@ static const uint32_t some_rates[] = {0, 7999, 8000, 8499, 8500, 11025, 16000, 2
 static const uint32_t some_ceilings[] = {0, 1, 2, 10, 100, 250, 499, 500, 1000, 2000, 3999, 4000, 4001, UINT32_MAX};
 
 static unsigned long tried, different;
-static uint64_t most_seen[8];
+static uint64_t most_seen[9];
 
 static void same(size_t which, uint64_t constant, uint64_t call, const char *name, uint32_t first, uint32_t second)
 {
@@ -45,6 +45,7 @@ static void fine_at(uint32_t span)
     same(5, TMV_FINE_FRAME_LEN(span), tmv_fine_frame_len(span), "TMV_FINE_FRAME_LEN", span, 0);
     same(6, TMV_FINE_WINDOW_LEN(span), tmv_fine_window_len(span), "TMV_FINE_WINDOW_LEN", span, 0);
     same(7, TMV_FINE_CORRELATION_LEN(span), tmv_fine_correlation_len(span), "TMV_FINE_CORRELATION_LEN", span, 0);
+    same(8, TMV_FINE_TRANSFORM_LEN(span), tmv_fine_transform_len(span), "TMV_FINE_TRANSFORM_LEN", span, 0);
 }
 
 static void every_ceiling(uint32_t rate)
@@ -55,8 +56,8 @@ static void every_ceiling(uint32_t rate)
 
 static void the_largest(void)
 {
-    const uint64_t most[8] = {TMV_SCAN_ENVELOPE_MOST, TMV_SCAN_LEVELS_MOST, TMV_SCAN_WINDOW_MOST, TMV_SCAN_PREFIX_MOST, TMV_SCAN_LAGS_MOST, TMV_FINE_FRAME_MOST, TMV_FINE_WINDOW_MOST, TMV_FINE_CORRELATION_MOST};
-    for (size_t i = 0; i < 8; i++) {
+    const uint64_t most[9] = {TMV_SCAN_ENVELOPE_MOST, TMV_SCAN_LEVELS_MOST, TMV_SCAN_WINDOW_MOST, TMV_SCAN_PREFIX_MOST, TMV_SCAN_LAGS_MOST, TMV_FINE_FRAME_MOST, TMV_FINE_WINDOW_MOST, TMV_FINE_CORRELATION_MOST, TMV_FINE_WINDOW_MOST};
+    for (size_t i = 0; i < 9; i++) {
         if (most[i] == most_seen[i])
             continue;
         different++;

@@ -74,6 +74,7 @@ static void fine(void)
     enum tmv_fine_taking taking = TMVT_FINE_TAKEN;
     enum tmv_gate gate = TMVT_GATE_SKIPPED;
     enum tmv_rescan rescan = TMVT_RESCAN_SKIPPED;
+    size_t taken = 9;
     uint64_t number = 1;
     double ratio = 1;
 
@@ -84,9 +85,12 @@ static void fine(void)
     EXPECT(tmvt_fine_new(&fine, 0) == TMVT_OUTSIDE_TABLE && tmvt_fine_new(&fine, SPAN) == TMVT_ACCEPTED);
     EXPECT(tmvt_fine_rescan(&fine, window, TMV_COUNT(window), 0, 0, &rescan) == TMVT_ACCEPTED && rescan == TMVT_RESCAN_NOTHING_RETAINED);
     for (int round = 0; round < 2; round++) {
-        for (size_t i = 0; i < TMV_FINE_FRAME_LEN(SPAN); i++)
+        EXPECT(tmvt_fine_push_near_run(&fine, window, 3, &taking, &taken) == TMVT_ACCEPTED && taking == TMVT_FINE_TAKEN && taken == 3);
+        for (size_t i = 3; i < TMV_FINE_FRAME_LEN(SPAN); i++)
             EXPECT(tmvt_fine_push_near(&fine, 0.25f, &taking) == TMVT_ACCEPTED);
         EXPECT(taking == TMVT_FINE_FULL && tmvt_fine_push_near(&fine, 0.25f, &taking) == TMVT_FRAME_WAITS);
+        EXPECT(tmvt_fine_push_near_run(&fine, window, 2, &taking, &taken) == TMVT_FRAME_WAITS && tmvt_fine_push_near_run(&fine, window, 0, &taking, &taken) == TMVT_ACCEPTED);
+        EXPECT(taking == TMVT_FINE_TAKEN && taken == 0);
         EXPECT(tmvt_fine_gate(&fine, window, TMV_COUNT(window) - 1, 0, 0, &gate) == TMVT_WRONG_LENGTH);
         EXPECT(tmvt_fine_gate(&fine, window, TMV_COUNT(window), 0, 0, &gate) == TMVT_ACCEPTED && gate == (round == 0 ? TMVT_GATE_FIRST : TMVT_GATE_LATER));
     }
@@ -139,6 +143,9 @@ static void ring(void)
     struct tmv_ring ring = TMV_RING_OVER(buf);
     uint32_t samples[5];
     struct tmv_kept kept = {true, 9};
+    struct tmv_missing missing = {9, 9};
+    uint32_t patterns[8];
+    float floats[5];
     uint64_t number = 1;
 
     for (uint32_t i = 0; i < 5; i++)
@@ -146,9 +153,14 @@ static void ring(void)
     EXPECT(tmvt_ring_new(&ring) == TMVT_ACCEPTED && tmvt_ring_push(&ring, samples, 5) == TMVT_ACCEPTED);
     EXPECT(tmvt_ring_get(&ring, 0, &kept) == TMVT_ACCEPTED && !kept.kept && kept.sample == 0);
     EXPECT(tmvt_ring_get(&ring, 4, &kept) == TMVT_ACCEPTED && kept.kept && kept.sample == 5);
+    EXPECT(tmvt_ring_window(&ring, 4, 5, patterns, 8, &missing) == TMVT_ACCEPTED && missing.head == 2 && missing.tail == 2);
+    EXPECT(patterns[0] == 0 && patterns[1] == 0 && patterns[2] == samples[1] && patterns[5] == samples[4] && patterns[6] == 0 && patterns[7] == 0);
+    EXPECT(tmvt_ring_window_floats(&ring, 1, 0, floats, 5, &missing) == TMVT_ACCEPTED && missing.head == 0 && missing.tail == 1);
+    EXPECT(floats[0] == 2 && floats[3] == 5 && floats[4] == 0);
     EXPECT(tmvt_ring_next_abs(&ring, &number) == TMVT_ACCEPTED && number == 5);
     EXPECT(tmvt_ring_capacity(&ring, &number) == TMVT_ACCEPTED && number == 4);
     EXPECT(tmvt_ring_dropped(&ring, &number) == TMVT_ACCEPTED && number == 1);
+    EXPECT(tmvt_ring_push_floats(&ring, floats, 2) == TMVT_ACCEPTED && tmvt_ring_get(&ring, 6, &kept) == TMVT_ACCEPTED && kept.kept && kept.sample == 3);
     EXPECT(tmvt_ring_clear(&ring) == TMVT_ACCEPTED && tmvt_ring_next_abs(&ring, &number) == TMVT_ACCEPTED && number == 0);
 }
 

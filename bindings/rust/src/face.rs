@@ -80,8 +80,11 @@ pub mod ring {
         words = tmv_ring_words() -> u64;
         new = tmv_ring_new(state: write u64, buf: read u32) -> u32;
         push = tmv_ring_push(state: write u64, buf: write u32, samples: read u32) -> u32;
+        push_floats = tmv_ring_push_floats(state: write u64, buf: write u32, samples: read f32) -> u32;
         clear = tmv_ring_clear(state: write u64, buf: read u32) -> u32;
         get = tmv_ring_get(state: read u64, buf: read u32, at: number u64, values: write u64) -> u32;
+        window = tmv_ring_window(state: read u64, buf: read u32, at: number u64, back: number u64, window: write u32, values: write u64) -> u32;
+        window_floats = tmv_ring_window_floats(state: read u64, buf: read u32, at: number u64, back: number u64, window: write f32, values: write u64) -> u32;
         next_abs = tmv_ring_next_abs(state: read u64, buf: read u32, values: write u64) -> u32;
         capacity = tmv_ring_capacity(state: read u64, buf: read u32, values: write u64) -> u32;
         dropped = tmv_ring_dropped(state: read u64, buf: read u32, values: write u64) -> u32;
@@ -107,11 +110,13 @@ pub mod fine {
         frame_len = tmv_fine_frame_len(span: number u32) -> u64;
         window_len = tmv_fine_window_len(span: number u32) -> u64;
         correlation_len = tmv_fine_correlation_len(span: number u32) -> u64;
+        transform_len = tmv_fine_transform_len(span: number u32) -> u64;
         new = tmv_fine_new(state: write u64, span: number u32) -> u32;
         restart = tmv_fine_restart(state: write u64) -> u32;
         relocate = tmv_fine_relocate(state: write u64, origin: number u64) -> u32;
         reset = tmv_fine_reset(state: write u64) -> u32;
         push_near = tmv_fine_push_near(state: write u64, near: write f32, sample: number f32) -> u32;
+        push_near_run = tmv_fine_push_near_run(state: write u64, near: write f32, samples: read f32, values: write u64) -> u32;
         gate = tmv_fine_gate(state: write u64, near: read f32, retained: write f32, far: read f32, missing_head: number u64, missing_tail: number u64) -> u32;
         rescan = tmv_fine_rescan(state: read u64, retained: read f32, far: read f32, missing_head: number u64, missing_tail: number u64) -> u32;
         peak = tmv_fine_peak(state: write u64, correlation: read f32, values: write u64) -> u32;

@@ -6,7 +6,8 @@ use crate::face::fine as face;
 pub(crate) const WORDS: usize = 14;
 const PEAK_VALUES: usize = 4;
 
-const fn transform_len(span: u32) -> usize {
+/// Length of the host's transform; 0 outside the table.
+pub const fn transform_len(span: u32) -> usize {
     if span < 1 || span > 32_768 {
         return 0;
     }
@@ -137,6 +138,17 @@ impl<'m> Fine<'m> {
         match answer(face::push_near(&mut self.state, self.near, sample))? {
             0 => Ok(FineTaking::Taken),
             1 => Ok(FineTaking::Full),
+            case => unknown(case),
+        }
+    }
+
+    /// A run of near samples, up to the one that completes the frame: what became of them, and how many were taken.
+    pub fn push_near_run(&mut self, samples: &[f32]) -> Result<(FineTaking, usize), Refusal> {
+        let mut values = [0; 1];
+        let number = face::push_near_run(&mut self.state, self.near, samples, &mut values);
+        match answer(number)? {
+            0 => Ok((FineTaking::Taken, values[0] as usize)),
+            1 => Ok((FineTaking::Full, values[0] as usize)),
             case => unknown(case),
         }
     }

@@ -40,7 +40,7 @@ pub mod tracker;
 
 pub use answers::Refusal;
 pub use fine::{Candidate, Fine, FineTaking, Gate, Peak, Positions, Rescan};
-pub use ring::Ring;
+pub use ring::{Missing, Ring};
 pub use scan::{Frame, Region, Scan, ScanMemory, Scored, Taking};
 pub use tracker::{Cycle, Tracker, Trigger, Verdict};
 

@@ -12,6 +12,21 @@ pub struct Ring<'m> {
     buf: &'m mut [u32],
 }
 
+/// How many samples of a window are missing.
+#[derive(Clone, Copy, PartialEq, Eq, Debug)]
+pub struct Missing {
+    /// Before the stream's first sample, or overwritten.
+    pub head: u64,
+    /// Not pushed yet.
+    pub tail: u64,
+}
+
+fn missing(call: impl FnOnce(&mut [u64]) -> u32) -> Result<Missing, Refusal> {
+    let mut values = [0; 2];
+    done(call(&mut values))?;
+    Ok(Missing { head: values[0], tail: values[1] })
+}
+
 impl<'m> Ring<'m> {
     /// A ring over this buffer, of length 1 or more.
     pub fn new(buf: &'m mut [u32]) -> Result<Ring<'m>, Refusal> {
@@ -25,6 +40,11 @@ impl<'m> Ring<'m> {
         done(face::push(&mut self.state, self.buf, samples))
     }
 
+    /// Appends floats. Every NaN is stored as 0x7FC00000.
+    pub fn push_floats(&mut self, samples: &[f32]) -> Result<(), Refusal> {
+        done(face::push_floats(&mut self.state, self.buf, samples))
+    }
+
     /// As it was made.
     pub fn clear(&mut self) -> Result<(), Refusal> {
         done(face::clear(&mut self.state, self.buf))
@@ -35,6 +55,16 @@ impl<'m> Ring<'m> {
         let mut values = [0];
         let kept = flag(face::get(&self.state, self.buf, at, &mut values))?;
         Ok(kept.then(|| f32::from_bits(self.buf[values[0] as usize])))
+    }
+
+    /// Reads the window that begins `back` samples before absolute index `at`, with 0 where no sample is kept: how many are missing.
+    pub fn window(&self, at: u64, back: u64, window: &mut [u32]) -> Result<Missing, Refusal> {
+        missing(|values| face::window(&self.state, self.buf, at, back, window, values))
+    }
+
+    /// The same window as floats. A NaN is read as a NaN of any payload.
+    pub fn window_floats(&self, at: u64, back: u64, window: &mut [f32]) -> Result<Missing, Refusal> {
+        missing(|values| face::window_floats(&self.state, self.buf, at, back, window, values))
     }
 
     /// The absolute index of the next sample.

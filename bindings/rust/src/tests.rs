@@ -42,8 +42,8 @@ fn scan_lengths() {
 #[test]
 fn fine_lengths() {
     for span in (0..=32_769).chain([u32::MAX]) {
-        let ours = [fine::frame_len(span), fine::window_len(span), fine::correlation_len(span)];
-        let archive = [face::fine::frame_len(span), face::fine::window_len(span), face::fine::correlation_len(span)];
+        let ours = [fine::frame_len(span), fine::window_len(span), fine::correlation_len(span), fine::transform_len(span)];
+        let archive = [face::fine::frame_len(span), face::fine::window_len(span), face::fine::correlation_len(span), face::fine::transform_len(span)];
         assert_eq!(ours.map(|len| len as u64), archive, "{span}");
     }
 }

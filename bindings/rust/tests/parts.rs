@@ -1,7 +1,7 @@
 //! Each part as a host uses it, with its refusals.
 
 use trimolaveg::{fine, floats, scan};
-use trimolaveg::{Cycle, Fine, FineTaking, Frame, Gate, Peak, Positions, Refusal, Rescan, Ring, Scan, ScanMemory, Scored, Taking, Tracker, Trigger, Verdict};
+use trimolaveg::{Cycle, Fine, FineTaking, Frame, Gate, Missing, Peak, Positions, Refusal, Rescan, Ring, Scan, ScanMemory, Scored, Taking, Tracker, Trigger, Verdict};
 
 const RATE: u32 = 48_000;
 const CEILING: u32 = 500;
@@ -162,4 +162,32 @@ fn floats_are_the_processors() {
             assert_eq!(list, [value.abs().sqrt().to_bits(); 3]);
         }
     }
+}
+
+#[test]
+fn a_ring_reads_windows() {
+    let mut buf = [0; 4];
+    let mut ring = Ring::new(&mut buf).unwrap();
+    assert_eq!(ring.push_floats(&[1.0, 2.0, f32::NAN, 4.0, 5.0]), Ok(()));
+    let (mut patterns, mut floats) = ([9; 8], [9.0; 5]);
+    assert_eq!(ring.window(4, 5, &mut patterns), Ok(Missing { head: 2, tail: 2 }));
+    assert_eq!(patterns, [0, 0, 2.0_f32.to_bits(), 0x7fc0_0000, 4.0_f32.to_bits(), 5.0_f32.to_bits(), 0, 0]);
+    assert_eq!(ring.window_floats(3, 0, &mut floats), Ok(Missing { head: 0, tail: 3 }));
+    assert_eq!(floats, [4.0, 5.0, 0.0, 0.0, 0.0]);
+    assert_eq!(ring.window_floats(0, u64::MAX, &mut floats), Ok(Missing { head: 5, tail: 0 }));
+    assert_eq!(floats, [0.0; 5]);
+}
+
+#[test]
+fn a_fine_stage_takes_runs() {
+    const SPAN: u32 = 64;
+    let frame = fine::frame_len(SPAN);
+    assert_eq!(fine::transform_len(SPAN), frame + SPAN as usize);
+    let (mut near, mut retained) = (vec![0.0; frame], vec![0.0; frame]);
+    let mut stage = Fine::new(&mut near, &mut retained, SPAN).unwrap();
+    assert_eq!(stage.push_near_run(&[0.5, f32::NAN]), Err(Refusal::NotFinite));
+    assert_eq!(stage.push_near_run(&[0.5; 3]), Ok((FineTaking::Taken, 3)));
+    assert_eq!(stage.push_near_run(&vec![0.5; frame]), Ok((FineTaking::Full, frame - 3)));
+    assert_eq!(stage.push_near_run(&[0.5]), Err(Refusal::FrameWaits));
+    assert_eq!(stage.push_near_run(&[]), Ok((FineTaking::Taken, 0)));
 }

@@ -1,4 +1,4 @@
-//! The peak rule on a correlation with one peak.
+//! Runs of near samples, and the peak rule on a correlation with one peak.
 
 use crate::bench::times::{nanoseconds, Times};
 use crate::choices;
@@ -35,4 +35,39 @@ pub fn peak(span: u32) {
         },
     );
     times.row(&format!("peak rule, span {span}"), 1);
+}
+
+/// Into one frame, in runs of `count`; the Rust takes each sample by itself.
+pub fn near_run(count: usize) {
+    const SPAN: u32 = 2_048;
+    let mut random = Random::new(4);
+    let frame = face::fine::frame_len(SPAN) as usize;
+    let samples: Vec<f32> = (0..frame - 1).map(|_| choices::sample(&mut random)).collect();
+    let runs = samples.chunks_exact(count);
+    let each = runs.len();
+    let mut original = DelayEstimator::new(1000, SPAN as u16);
+    let times = Times::take(
+        300,
+        || {
+            let (mut state, mut near, mut values) = ([0; 14], vec![0.0; frame], [0]);
+            assert_eq!(face::fine::new(&mut state, SPAN), 16);
+            nanoseconds(|| {
+                for run in runs.clone() {
+                    let answer = face::fine::push_near_run(&mut state, &mut near, black_box(run), &mut values);
+                    assert_eq!(answer, 16);
+                }
+            })
+        },
+        || {
+            original.restart();
+            nanoseconds(|| {
+                for run in runs.clone() {
+                    for sample in black_box(run) {
+                        black_box(original.push_near(*sample));
+                    }
+                }
+            })
+        },
+    );
+    times.row(&format!("fine near run of {count} samples, a run"), each);
 }

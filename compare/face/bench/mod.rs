@@ -2,6 +2,7 @@
 
 mod fine;
 mod floats;
+mod ring;
 mod scan;
 mod times;
 mod tracker;
@@ -16,6 +17,9 @@ pub fn run() -> bool {
     scan::near_run(16);
     scan::near_run(480);
     tracker::cycle();
+    fine::near_run(16);
+    fine::near_run(160);
+    ring::window(4_096);
     fine::peak(1_000);
     fine::peak(32_768);
     floats::root();

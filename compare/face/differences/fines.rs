@@ -6,7 +6,7 @@ use crate::face::fine as face;
 use crate::fines::world::World;
 
 pub fn all() -> Vec<Difference> {
-    vec![counted(), waiting(), ungated()]
+    vec![counted(), waiting(), ungated(), run()]
 }
 
 fn counted() -> Difference {
@@ -46,6 +46,21 @@ fn waiting() -> Difference {
         input: "a near sample to the fine stage while a full frame waits",
         rust: (format!("grows the frame by {more}"), "grows the frame by 1"),
         here: (refused(answer), "refuses with 6"),
+    }
+}
+
+fn run() -> Difference {
+    let mut w = World::new(9);
+    let mut original = DelayEstimator::new(1000, 9);
+    let samples = [0.5, f32::NAN];
+    for sample in samples {
+        original.push_near(sample);
+    }
+    let answer = face::push_near_run(w.state.lent_mut(), w.near.lent_mut(), &samples, &mut [0]);
+    Difference {
+        input: "0.5 and a NaN to the fine stage, there one by one and here in a run",
+        rust: (format!("takes {}", original.near_frame().len()), "takes 2"),
+        here: (format!("{}, takes {}", refused(answer), w.word(4)), "refuses with 4, takes 0"),
     }
 }
 

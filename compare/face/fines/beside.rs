@@ -111,5 +111,6 @@ pub fn holds(w: &World, fine: &DelayEstimator, list: List) -> bool {
         List::Retained => w.retained.unchanged(),
         List::Far => w.far.unchanged(),
         List::Correlation => w.correlation.unchanged(),
+        List::Samples => w.samples.unchanged(),
     }
 }

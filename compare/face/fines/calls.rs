@@ -15,6 +15,9 @@ pub fn face(w: &mut World, call: &Call) -> u32 {
         Call::Relocate(origin) => return face::relocate(state, origin),
         Call::Reset => return face::reset(state),
         Call::PushNear(sample) => return face::push_near(state, w.near.lent_mut(), sample),
+        Call::PushNearRun => {
+            return face::push_near_run(state, w.near.lent_mut(), w.samples.lent(), values)
+        }
         Call::Gate { head, tail } => {
             let (near, retained) = (w.near.lent(), w.retained.lent_mut());
             return face::gate(state, near, retained, w.far.lent(), head, tail);
@@ -47,12 +50,24 @@ pub fn original(w: &World, call: &Call, original: &mut Original) -> (u32, Vec<u6
         Call::Relocate(origin) => fine.relocate(origin as usize),
         Call::Reset => fine.reset(),
         Call::PushNear(sample) => return (16 + fine.push_near(sample) as u32, vec![]),
+        Call::PushNearRun => return near_run(w, fine),
         Call::Gate { head, tail } => return (gate(w, fine, head, tail), vec![]),
         Call::Rescan { head, tail } => return (rescan(w, original, head, tail), vec![]),
         Call::Peak => return peak(w, original),
         _ => return report(w, call, original),
     }
     (16, vec![])
+}
+
+/// Sample by sample, up to the one that completes the frame.
+fn near_run(w: &World, fine: &mut DelayEstimator) -> (u32, Vec<u64>) {
+    let samples = w.samples.lent();
+    for (i, sample) in samples.iter().enumerate() {
+        if fine.push_near(*sample) {
+            return (17, vec![i as u64 + 1]);
+        }
+    }
+    (16, vec![samples.len() as u64])
 }
 
 fn report(w: &World, call: &Call, original: &Original) -> (u32, Vec<u64>) {

@@ -3,6 +3,7 @@
 use super::shape::{Call, REPORTS};
 use super::world::World;
 use crate::choices;
+use crate::lent::Lent;
 use crate::random::Random;
 use crate::rules::LIMIT;
 
@@ -35,7 +36,7 @@ pub fn travel(random: &mut Random, w: &mut World) {
     }
 }
 
-pub fn call(random: &mut Random, w: &World) -> Call {
+pub fn call(random: &mut Random, w: &mut World) -> Call {
     let frame = w.word(2);
     if w.word(4) == frame && random.once_in(2) {
         return gate(random, frame);
@@ -52,7 +53,8 @@ pub fn call(random: &mut Random, w: &World) -> Call {
             1 => choices::word(random, 0),
             _ => random.below(100_000),
         }),
-        5..=24 => Call::PushNear(match random.once_in(12) {
+        5..=14 => run(random, w),
+        15..=24 => Call::PushNear(match random.once_in(12) {
             true => f32::from_bits(choices::odd32(random)),
             false => choices::sample(random),
         }),
@@ -64,6 +66,26 @@ pub fn call(random: &mut Random, w: &World) -> Call {
         33..=42 => Call::Peak,
         _ => random.one_of(&REPORTS),
     }
+}
+
+/// Runs of none, of one, of about sixteen, up to a frame and beyond it. Now and then a sample is not finite.
+fn run(random: &mut Random, w: &mut World) -> Call {
+    let left = w.word(2).saturating_sub(w.word(4)).min(2000);
+    let count = match random.below(8) {
+        0 => 0,
+        1 => 1,
+        2..=4 => random.between(14, 18),
+        5 => left,
+        6 => left + random.below(20),
+        _ => random.below(left + 2),
+    };
+    let mut samples: Vec<f32> = (0..count).map(|_| choices::sample(random)).collect();
+    if count > 0 && random.once_in(5) {
+        let at = random.below(count) as usize;
+        samples[at] = f32::from_bits(choices::odd32(random));
+    }
+    w.samples = Lent::of(&samples);
+    Call::PushNearRun
 }
 
 fn gate(random: &mut Random, frame: u64) -> Call {

@@ -23,7 +23,7 @@ pub fn due(w: &World, call: &Call) -> Judged {
 
 fn fits(w: &World, list: List, span: u64, lengths: &Lengths) -> bool {
     match list {
-        List::State | List::Values => true,
+        List::State | List::Values | List::Samples => true,
         List::Near => w.near.lent().len() as u64 == lengths.frame,
         List::Retained => w.retained.lent().len() as u64 == lengths.frame,
         List::Far => w.far.lent().len() as u64 == lengths.window,
@@ -52,6 +52,15 @@ fn later(w: &World, call: &Call, lengths: &Lengths) -> Judged {
         Call::PushNear(sample) => {
             require(!full, FRAME_WAITS)?;
             finite(&[sample])
+        }
+        Call::PushNearRun => {
+            let samples = w.samples.lent();
+            if samples.is_empty() {
+                return Ok(());
+            }
+            require(!full, FRAME_WAITS)?;
+            let wanted = (lengths.frame - w.word(4)) as usize;
+            finite(&samples[..samples.len().min(wanted)])
         }
         Call::Gate { head, tail } => {
             require(full, NO_FULL_FRAME)?;

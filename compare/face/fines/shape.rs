@@ -10,6 +10,7 @@ pub enum List {
     Retained,
     Far,
     Correlation,
+    Samples,
 }
 
 #[derive(Clone, Copy, PartialEq, Debug)]
@@ -19,6 +20,7 @@ pub enum Call {
     Relocate(u64),
     Reset,
     PushNear(f32),
+    PushNearRun,
     Gate { head: u64, tail: u64 },
     Rescan { head: u64, tail: u64 },
     Peak,
@@ -60,6 +62,7 @@ impl shape::Call for Call {
             Call::Relocate(_) => ("relocate", &[State], 0),
             Call::Reset => ("reset", &[State], 0),
             Call::PushNear(_) => ("push_near", &[State, Near], 0),
+            Call::PushNearRun => ("push_near_run", &[State, Near, Samples, Values], 1),
             Call::Gate { .. } => ("gate", &[State, Near, Retained, Far], 0),
             Call::Rescan { .. } => ("rescan", &[State, Retained, Far], 0),
             Call::Peak => ("peak", &[State, Correlation, Values], 4),

@@ -14,10 +14,11 @@ pub struct World {
     pub retained: Lent<f32>,
     pub far: Lent<f32>,
     pub correlation: Lent<f32>,
+    pub samples: Lent<f32>,
 }
 
 lists!(World, Call, List:
-    State state, Values values, Near near, Retained retained, Far far, Correlation correlation);
+    State state, Values values, Near near, Retained retained, Far far, Correlation correlation, Samples samples);
 
 impl World {
     /// A new state, as the scope paper has it.
@@ -39,6 +40,7 @@ impl World {
             retained: samples(lengths.frame),
             far: samples(lengths.window),
             correlation: samples(span + 1 + more),
+            samples: samples(0),
         }
     }
 

@@ -17,6 +17,7 @@ pub fn due(w: &World, call: &Call) -> Judged {
     require(accepted <= LIMIT, BROKEN_STATE)?;
     let more = match call {
         Call::Push => w.samples.lent().len() as u64,
+        Call::PushFloats => w.floats.lent().len() as u64,
         _ => 0,
     };
     require(accepted + more <= LIMIT, TOO_LARGE)

@@ -11,9 +11,13 @@ pub struct World {
     pub values: Lent<u64>,
     pub buffer: Lent<u32>,
     pub samples: Lent<u32>,
+    pub floats: Lent<f32>,
+    pub window: Lent<u32>,
+    pub float_window: Lent<f32>,
 }
 
-lists!(World, Call, List: State state, Values values, Buffer buffer, Samples samples);
+lists!(World, Call, List:
+    State state, Values values, Buffer buffer, Samples samples, Floats floats, Window window, FloatWindow float_window);
 
 impl World {
     /// A new ring over a buffer that may hold anything.
@@ -23,6 +27,9 @@ impl World {
             values: Lent::new(1, 0),
             buffer: Lent::of(buffer),
             samples: Lent::new(0, 0),
+            floats: Lent::new(0, 0.0),
+            window: Lent::new(0, 0),
+            float_window: Lent::new(0, 0.0),
         }
     }
 

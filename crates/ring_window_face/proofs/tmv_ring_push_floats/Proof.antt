@@ -1,0 +1,39 @@
+-- `ring_window_face::tmv_ring_push_floats` meets its contract.
+use mathlib.Core.Path.{sym, _∙_}
+use Rattle.ring_window_face.specs.Calls.{pushFloatsCalled}
+use Rattle.face.proofs.Order.{state-fits, refused, let-pass, number-is, words-are, buffers-are}
+use borrow.Author.Needs.{needs}
+use Rattle.ring_window_face.proofs.tmv_ring_push_floats.Statement.{statement}
+use Rattle.ring_window_face.proofs.tmv_ring_push_floats.Tie as tie
+
+judge-requires : tie.Need-judge-requires
+judge-requires c κs = search needs
+
+same-length : tie.Need-same-length
+same-length c = search needs
+
+returns : tie.Need-returns
+unfolding pushFloatsCalled
+returns c = let w = refused _ _ _ _ _ _ (c .before .judge .ensures) (c .if1 .taken) in (number-is w, (words-are w, buffers-are w))
+
+load-requires : tie.Need-load-requires
+load-requires c κs = state-fits _ (c .before .before .before .before .before .before .before .args .state .now) _ _ (sym (c .before .before .judge .ensures) ∙ c .before .if1 .left)
+
+push-floats-requires : tie.Need-push-floats-requires
+push-floats-requires c κs = search needs
+
+settle-change-requires : tie.Need-settle-change-requires
+settle-change-requires c κs = state-fits _ (c .before .before .before .before .before .before .before .before .before .before .before .before .before .args .state .now) _ _ (sym (c .before .before .before .before .before .before .before .before .judge .ensures) ∙ c .before .before .before .before .before .before .before .if1 .left)
+
+same-length-2 : tie.Need-same-length-2
+same-length-2 c = search needs
+
+same-length-3 : tie.Need-same-length-3
+same-length-3 c = search needs
+
+returns-2 : tie.Need-returns-2
+unfolding pushFloatsCalled
+returns-2 c = let p = let-pass _ _ _ _ _ _ (c .before .before .before .before .before .before .before .before .before .before .before .judge .ensures) (c .before .before .before .before .before .before .before .before .before .before .if1 .left) in (cc (c .before .before .settle-change .ensures .0, c .before .before .before .before .before .before .push-floats .ensures .0, c .before .before .before .before .before .before .before .before .load .ensures) ∙ number-is p, (cc (c .before .before .settle-change .ensures .1, c .before .before .before .before .before .before .push-floats .ensures .0, c .before .before .before .before .before .before .before .before .load .ensures) ∙ words-are p, cc (c .before .before .before .before .before .before .push-floats .ensures .1, c .before .before .before .before .before .before .before .before .load .ensures) ∙ buffers-are p))
+
+pub tmv-ring-push-floats-spec : {M : Type 1} → statement M
+tmv-ring-push-floats-spec = tie.close (tie.spec judge-requires same-length returns load-requires push-floats-requires settle-change-requires same-length-2 same-length-3 returns-2)
