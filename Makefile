@@ -7,7 +7,7 @@ PROCESSOR ?= $(shell uname -m)
 version := $(shell tools/version)
 name := trimolaveg-$(version)
 headers := $(wildcard include/*.h)
-programs := replay parts
+programs := replay parts check
 
 # In a tree that came from a dist file there are archives and no crates.
 ifneq ($(wildcard crates),)

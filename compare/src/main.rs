@@ -44,7 +44,8 @@ compare vectors parts SEED FOLDER     writes index, first, second and logs: pair
 compare parts SEED COUNT PROGRAM      runs PROGRAM LOG LOG on random pairs of logs and compares what it prints and its status
 compare long-logs LINES FOLDER        writes first and second, two logs of so many lines that differ in one
 compare histories SEED CYCLES         tells verdicts from random histories by request m's sentences, beside track.rs
-compare replays SEED COUNT PROGRAM    runs PROGRAM EVENTS FAR NEAR on random recordings and compares what it prints";
+compare replays SEED COUNT PROGRAM    runs PROGRAM EVENTS FAR NEAR on random recordings and compares what it prints
+compare checks SEED COUNT PROGRAM     runs PROGRAM EVENTS FAR NEAR LOG on random recordings and logs, right and with one fault each";
 
 fn main() {
     let words: Vec<String> = std::env::args().skip(1).collect();
@@ -53,6 +54,7 @@ fn main() {
         ["vectors", what, seed, folder] => vectors::write(what, seed, folder),
         ["replays", seed, count, program] => replays(seed, count, program),
         ["parts", seed, count, program] => parts(seed, count, program),
+        ["checks", seed, count, program] => checks(seed, count, program),
         ["long-logs", lines, folder] => long_logs(lines, folder),
         ["histories", seed, cycles] => histories(seed, cycles),
         ["long", which, minutes, folder] => minutes_long(which, minutes, folder),
@@ -154,4 +156,10 @@ fn replays(seed: &str, count: &str, program: &str) -> Result<(), String> {
     let seed = seed.parse().map_err(|_| format!("'{seed}' is no seed"))?;
     let count = count.parse().map_err(|_| format!("'{count}' is no count"))?;
     replay::differ::run(seed, count, program)
+}
+
+fn checks(seed: &str, count: &str, program: &str) -> Result<(), String> {
+    let seed = seed.parse().map_err(|_| format!("'{seed}' is no seed"))?;
+    let count = count.parse().map_err(|_| format!("'{count}' is no count"))?;
+    replay::checks::run(seed, count, program)
 }

@@ -29,7 +29,7 @@ class Stored(NamedTuple):
 
 def every() -> Iterator[Stored]:
     names = (DATA / "names").read_text().splitlines()
-    files = [(DATA / name).read_bytes() for name in ("events", "far", "near", "../stdout")]
+    files = [(DATA / name).read_bytes() for name in ("events", "far", "near", "logs")]
     begins = [0, 0, 0, 0]
     for name, lengths in zip(names, struct.iter_unpack("<4I", (DATA / "index").read_bytes())):
         events, _, near, log = (file[begin : begin + length] for file, begin, length in zip(files, begins, lengths))

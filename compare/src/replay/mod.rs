@@ -1,5 +1,6 @@
 //! The scope paper's replay around the unchanged scan and tracker: a recording in, its log out.
 
+pub mod checks;
 pub mod differ;
 pub mod maker;
 pub mod recordings;

@@ -1,15 +1,17 @@
-//! Recordings with their logs, one input behind the other in a file each.
+//! Recordings with their logs, one input behind the other in a file each, and what a checker must say of each log: of the log itself, and of the log without its last two bytes.
 
 use super::Files;
 use crate::random::Random;
 use crate::record::Record;
 use crate::replay::recordings::{all, demo};
+use crate::replay::checks::verdict;
 use crate::replay::{log, Recording};
 
 pub fn files(mut random: Random) -> Files {
     let mut index = Record::default();
     let mut sides = Recording::default();
     let mut logs = Vec::new();
+    let mut verdicts = Vec::new();
     let mut names = Vec::new();
     for (number, (name, recording)) in all(&mut random).0.into_iter().enumerate() {
         let log = log(&recording);
@@ -19,7 +21,10 @@ pub fn files(mut random: Random) -> Files {
         sides.events.extend(events);
         sides.far.extend(far);
         sides.near.extend(near);
-        logs.extend(log.into_bytes());
+        let log = log.into_bytes();
+        verdicts.extend(verdict(&log, &log).1);
+        verdicts.extend(verdict(&log[..log.len() - 2], &log).1);
+        logs.extend(log);
         names.extend(format!("{number} {}\n", name).into_bytes());
     }
     vec![
@@ -28,6 +33,7 @@ pub fn files(mut random: Random) -> Files {
         ("far", sides.far),
         ("near", sides.near),
         ("logs", logs),
+        ("verdicts", verdicts),
         ("names", names),
     ]
 }

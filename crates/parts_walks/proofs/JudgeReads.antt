@@ -4,7 +4,7 @@ use mathlib.Core.Path.{_≡_, refl, sym, ap, subst, _∙_}
 use mathlib.Core.Bool.{Bool, true}
 use mathlib.Core.List.{List, [], _∷_, _++_, append-assoc}
 use lib.ListN.{take, drop}
-use Rattle.pipes.specs.Window.{atHand}
+use Rattle.pipes.specs.Window.{atHand, Moved}
 use Rattle.pipes.specs.declared.window.Window.{Window}
 use Rattle.log_parts.proofs.Merges.{clash}
 use Rattle.log_parts.specs.declared.Judged.{Judged}
@@ -19,11 +19,11 @@ use Rattle.log_passes.specs.declared.judging.Judging.{Judging}
 use Rattle.log_passes.specs.declared.judging.Judgement.{Judgement}
 use Rattle.log_passes.specs.declared.judging.Look.{Look}
 use Rattle.log_passes.specs.declared.judging.Look.the-variants.{Goes, Wants, Over, Strange}
-use Rattle.parts_walks.specs.Windows as windows
-use Rattle.parts_walks.specs.Windows.{Moved}
+use Rattle.pipes.specs.Window as windows
 use Rattle.parts_walks.specs.Judged.{answered, Heeded, cameBy, Turned, Turns, none, more}
 use Rattle.parts_walks.specs.declared.judge.Stand.{Stand}
-use Rattle.parts_walks.proofs.Moving.{behind-is, nothing-comes, hand-on, holds}
+use Rattle.pipes.proofs.Going.{nothing-comes, hand-on}
+use Rattle.parts_walks.proofs.Moving.{behind-is, holds}
 
 -- ---- only a line that is taken changes where the judge stands
 

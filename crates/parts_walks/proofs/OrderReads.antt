@@ -6,7 +6,7 @@ use mathlib.Core.List.{List, [], _++_, append-assoc}
 use lib.ListN.{take, drop}
 use Rattle.answers.specs.Pick.{pick}
 use Rattle.answers.specs.Numbers.{nextLongCount}
-use Rattle.pipes.specs.Window.{atHand}
+use Rattle.pipes.specs.Window.{atHand, over}
 use Rattle.log_text.specs.Text.{sameText}
 use Rattle.log_parts.proofs.Merges.{clash}
 use Rattle.log_passes.specs.Taking.{takenIn}
@@ -17,12 +17,12 @@ use Rattle.log_passes.specs.declared.taking.Taken.the-variants as taken
 use Rattle.log_passes.specs.declared.beside.Ask.{Ask}
 use Rattle.log_passes.specs.declared.beside.Ask.the-variants.{Goes, WantsFirst, WantsSecond, Same, Apart, Strange}
 use Rattle.log_passes.specs.declared.beside.Beside.{Beside}
-use Rattle.parts_walks.specs.Windows.{over}
 use Rattle.parts_walks.specs.Inputs.{BothMoved}
 use Rattle.parts_walks.specs.Ordered.{answered, firstUsed, secondUsed, Turned, Turns, none, more}
 use Rattle.parts_walks.specs.declared.inputs.Inputs.{Inputs}
 use Rattle.parts_walks.specs.declared.order.Walk.{Walk}
-use Rattle.parts_walks.proofs.Moving.{nothing-came, nothing-comes, hand-on, holds, holds-last}
+use Rattle.pipes.proofs.Going.{nothing-came, nothing-comes, hand-on}
+use Rattle.parts_walks.proofs.Moving.{holds, holds-last}
 
 -- ---- only a line of each that is taken changes the place
 

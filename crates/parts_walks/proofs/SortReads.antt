@@ -22,12 +22,13 @@ use Rattle.log_passes.specs.declared.passing.Found.the-variants as found
 use Rattle.log_passes.specs.declared.passing.Need.{Need}
 use Rattle.log_passes.specs.declared.passing.Need.the-variants.{Goes, WantsFirst, WantsSecond, Over, Strange}
 use Rattle.log_passes.specs.declared.passing.Step.{Step}
-use Rattle.parts_walks.specs.Windows as windows
+use Rattle.pipes.specs.Window as windows
 use Rattle.parts_walks.specs.Inputs.{BothMoved}
 use Rattle.parts_walks.specs.Counted.{answered, Turned, Turns, none, more}
 use Rattle.parts_walks.specs.declared.inputs.Inputs.{Inputs}
 use Rattle.parts_walks.specs.declared.sorts.Walk.{Walk}
-use Rattle.parts_walks.proofs.Moving.{nothing-came, nothing-comes, hand-on, holds, holds-last}
+use Rattle.pipes.proofs.Going.{nothing-came, nothing-comes, hand-on}
+use Rattle.parts_walks.proofs.Moving.{holds, holds-last}
 
 -- ---- a step that does not go on changes nothing and uses nothing
 

@@ -2,13 +2,12 @@
 use Prim.Native.Nat.{ℕ}
 use mathlib.Core.Path.{_≡_}
 use mathlib.Core.List.{List, [], _++_}
-use Rattle.pipes.specs.Window.{atHand}
+use Rattle.pipes.specs.Window.{atHand, over}
 use Rattle.log_parts.specs.declared.Sort.{Sort}
 use Rattle.log_passes.specs.Passing.{stepOf, stepped, unbegun}
 use Rattle.log_passes.specs.declared.passing.Need.the-variants.{Goes}
 use Rattle.log_passes.specs.declared.passing.Pass.{Pass}
 use Rattle.log_passes.specs.declared.passing.Step.{Step}
-use Rattle.parts_walks.specs.Windows.{over}
 use Rattle.parts_walks.specs.Inputs.{BothMoved}
 use Rattle.parts_walks.specs.declared.inputs.Inputs.{Inputs}
 use Rattle.parts_walks.specs.declared.sorts.Walk.{Walk}

@@ -1,8 +1,7 @@
 -- The two inputs, each behind a window.
 use Prim.Native.Nat.{ℕ}
 use mathlib.Core.List.{List}
-use Rattle.pipes.specs.Window.{Within}
-use Rattle.parts_walks.specs.Windows.{Moved}
+use Rattle.pipes.specs.Window.{Within, Moved}
 use Rattle.parts_walks.specs.declared.inputs.Inputs.{Inputs}
 
 -- each window lies inside its room

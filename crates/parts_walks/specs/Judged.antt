@@ -2,7 +2,7 @@
 use mathlib.Core.Path.{_≡_}
 use mathlib.Core.List.{List, [], _++_}
 use Prim.Native.Nat.{ℕ}
-use Rattle.pipes.specs.Window.{atHand}
+use Rattle.pipes.specs.Window.{atHand, over, Moved}
 use Rattle.pipes.specs.declared.window.Window.{Window}
 use Rattle.log_passes.specs.Taking.{takenIn}
 use Rattle.log_passes.specs.Judging.{unread, judgedIn}
@@ -10,7 +10,6 @@ use Rattle.log_passes.specs.declared.judging.Judging.{Judging}
 use Rattle.log_passes.specs.declared.judging.Judgement.{Judgement}
 use Rattle.log_passes.specs.declared.judging.Look.{Look}
 use Rattle.log_passes.specs.declared.judging.Look.the-variants.{Goes, Wants, Over, Strange}
-use Rattle.parts_walks.specs.Windows.{over, Moved}
 use Rattle.parts_walks.specs.declared.judge.Stand.{Stand}
 
 -- before the first answer

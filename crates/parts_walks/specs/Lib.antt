@@ -1,5 +1,4 @@
 -- How the loops move their windows, and what they are answered.
-pub mod Windows
 pub mod Inputs
 pub mod Judged
 pub mod Ordered

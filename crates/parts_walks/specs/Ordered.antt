@@ -2,12 +2,11 @@
 use Prim.Native.Nat.{ℕ}
 use mathlib.Core.Path.{_≡_}
 use mathlib.Core.List.{List, [], _++_}
-use Rattle.pipes.specs.Window.{atHand}
+use Rattle.pipes.specs.Window.{atHand, over}
 use Rattle.log_passes.specs.Beside.{besideIn}
 use Rattle.log_passes.specs.declared.beside.Ask.{Ask}
 use Rattle.log_passes.specs.declared.beside.Ask.the-variants.{Goes, WantsFirst, WantsSecond, Same, Apart, Strange}
 use Rattle.log_passes.specs.declared.beside.Beside.{Beside}
-use Rattle.parts_walks.specs.Windows.{over}
 use Rattle.parts_walks.specs.Inputs.{BothMoved}
 use Rattle.parts_walks.specs.declared.inputs.Inputs.{Inputs}
 use Rattle.parts_walks.specs.declared.order.Walk.{Walk}

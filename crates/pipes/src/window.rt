@@ -2,7 +2,7 @@
 ghost use mathlib.Core.Path.{_≡_};
 ghost use Prim.Native.Nat.{_+_, _-_, _^_, _≤_, _<_, min};
 ghost use lib.ListN.{length, take, drop};
-ghost use Rattle.pipes.specs.Window.{Within, atHand, Grown};
+ghost use Rattle.pipes.specs.Window.{Within, atHand, over, Grown};
 
 // Those from `at` to `end` of a room of 65,536 bytes that the caller lends. At most `left` more may be read: 0 once the input has ended. After a failed call nothing more may be asked.
 pub struct Window {
@@ -41,7 +41,9 @@ pub fn allow(w: Window, most: u64) -> Window
 }
 
 // No byte comes behind those at hand.
-pub fn ended(w: Window) -> bool {
+pub fn ended(w: Window) -> bool
+    ensures { λ r. ⌜ r ≡ over w ⌝ }
+{
     w.left == 0
 }
 

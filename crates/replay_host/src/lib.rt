@@ -1,112 +1,21 @@
-// A recording in three open files, replayed: the text of its log goes to a fourth. What comes next is said by `replay_next::next`, which does no input or output; this crate
-// hands it the bytes and writes its lines, and is proved to be safe and to end.
-pub mod inputs; // the three inputs
-pub mod text; // the text of the log
-pub mod stream; // the log, line by line
-
-use inputs::Inputs;
-use inputs::Most;
-use log_lines::Line;
+// A recording in three open files, replayed: the lines of its log are written to a fourth, or held against a log there. This crate makes the room and opens the recording; `replay_close`
+// goes on from there. It is proved to be safe and to end.
 use pipes::window;
+use pipes::window::Window;
 use recording::Header;
 use recording::Start;
-use replay::Begun;
+use replay_close::Outcome;
+use replay_inputs::Inputs;
+use replay_inputs::Most;
+use replay_sink::Goal;
+use replay_sink::Sink;
 use scan_calls::rules;
-use text::Text;
 ghost use mathlib.Core.Path.{_≡_};
 ghost use Prim.Native.Nat.{_≤_};
 ghost use lib.ListN.{length};
-ghost use Rattle.replay_host.specs.Inputs.{AllWithin};
-
-// How a replay ended. Done: the log is out; Amiss: so it is, and it has a refusal or a `bad` line. Unread: a read of input 1 (events), 2 (far samples) or 3 (near samples)
-// failed. Unwritten: a write failed. Broken: the library's answer fits no recording, which its theorems rule out.
-pub enum Outcome {
-    Done,
-    Amiss,
-    Unread(u8),
-    Unwritten,
-    Broken,
-}
-
-fn outcome_of(text: Text, unread: u8, over: bool) -> Outcome {
-    if unread != 0 {
-        return Outcome::Unread(unread);
-    }
-    if !text.good {
-        return Outcome::Unwritten;
-    }
-    if !over {
-        return Outcome::Broken;
-    }
-    if text.amiss {
-        return Outcome::Amiss;
-    }
-    Outcome::Done
-}
-
-// A log of the one line `bad header`.
-fn unopened(to: Text, out: &mut [u8]) -> Outcome
-    requires { ⌜ to .held ≤ length (now out) ⌝ }
-{
-    let one = text::put(to, Line::BadHeader, out);
-    outcome_of(text::drain(one, out), 0, true)
-}
-
-// The log from its first line on, with buffers of the lengths that the header asks for.
-fn started(
-    header: Header,
-    inputs: Inputs,
-    to: Text,
-    events: &mut [u8],
-    far: &mut [u8],
-    near: &mut [u8],
-    envelope: &mut [f32],
-    levels: &mut [f32],
-    window: &mut [f32],
-    prefix: &mut [f64],
-    squares: &mut [f64],
-    scores: &mut [f64],
-    lag_sums: &mut [f64],
-    out: &mut [u8],
-) -> Outcome
-    requires { ⌜ (AllWithin inputs) × (length (now events) ≡ 65536) × (length (now far) ≡ 65536) × (length (now near) ≡ 65536) × (to .held ≤ length (now out)) ⌝ }
-{
-    match replay::start(
-        header,
-        envelope,
-        levels,
-        window,
-        prefix,
-        squares,
-        scores,
-        lag_sums,
-    ) {
-        Begun::Refused(_) => Outcome::Broken,
-        Begun::Ready(session) => {
-            let first = stream::opening(session, inputs, to);
-            let last = stream::all(
-                header,
-                first,
-                events,
-                far,
-                near,
-                envelope,
-                levels,
-                window,
-                prefix,
-                squares,
-                scores,
-                lag_sums,
-                out,
-            );
-            outcome_of(
-                text::drain(last.text, out),
-                inputs::failed(last.inputs),
-                last.over,
-            )
-        }
-    }
-}
+ghost use Rattle.pipes.specs.Window.{Within};
+ghost use Rattle.replay_inputs.specs.Inputs.{AllWithin};
+ghost use Rattle.replay_sink.specs.Sink.{Fits, FitsAny};
 
 fn least(a: u64, b: usize) -> usize
     ensures { λ r. ⌜ r ≤ b ⌝ }
@@ -118,7 +27,8 @@ fn least(a: u64, b: usize) -> usize
 fn sized(
     header: Header,
     inputs: Inputs,
-    to: Text,
+    sink: Sink,
+    watched: bool,
     events: &mut [u8],
     far: &mut [u8],
     near: &mut [u8],
@@ -129,9 +39,9 @@ fn sized(
     squares: &mut [f64],
     scores: &mut [f64],
     lag_sums: &mut [f64],
-    out: &mut [u8],
+    room: &mut [u8],
 ) -> Outcome
-    requires { ⌜ (AllWithin inputs) × (length (now events) ≡ 65536) × (length (now far) ≡ 65536) × (length (now near) ≡ 65536) × (to .held ≤ length (now out)) ⌝ }
+    requires { ⌜ (AllWithin inputs) × (length (now events) ≡ 65536) × (length (now far) ≡ 65536) × (length (now near) ≡ 65536) × (Fits sink (now room)) ⌝ }
 {
     let g = rules::geometry_of(header.rate, header.ceiling);
     let bins = g.frame + g.span;
@@ -142,10 +52,11 @@ fn sized(
     let q = least(bins + 1, squares.len());
     let s = least(g.span + 1, scores.len());
     let t = least(g.span + 1, lag_sums.len());
-    started(
+    replay_close::started(
         header,
         inputs,
-        to,
+        sink,
+        watched,
         events,
         far,
         near,
@@ -156,7 +67,7 @@ fn sized(
         &mut squares[..q],
         &mut scores[..s],
         &mut lag_sums[..t],
-        out,
+        room,
     )
 }
 
@@ -192,8 +103,8 @@ fn lags_space() -> [f64; 4249]
 }
 
 // A recording with a good header: all the room that its replay needs is made here.
-fn opened(header: Header, inputs: Inputs, to: Text) -> Outcome
-    requires { ⌜ (AllWithin inputs) × (to .held ≤ 0) ⌝ }
+fn opened(header: Header, inputs: Inputs, sink: Sink, watched: bool) -> Outcome
+    requires { ⌜ (AllWithin inputs) × (FitsAny sink) ⌝ }
 {
     let mut event_bytes = io::large_buffer();
     let mut far_bytes = io::large_buffer();
@@ -209,7 +120,8 @@ fn opened(header: Header, inputs: Inputs, to: Text) -> Outcome
     sized(
         header,
         inputs,
-        to,
+        sink,
+        watched,
         &mut event_bytes,
         &mut far_bytes,
         &mut near_bytes,
@@ -224,23 +136,44 @@ fn opened(header: Header, inputs: Inputs, to: Text) -> Outcome
     )
 }
 
-// Replays the recording in three open files, each of at most so many bytes from where it stands, and writes its log. Of the events only the header is read before it is known.
-pub fn run(events: i32, far: i32, near: i32, most: Most, out: i32, watched: bool) -> Outcome {
-    let to = text::fresh(out, watched);
-    let mut space = io::large_buffer();
-    let room: &mut [u8] = &mut space;
-    let head = window::read_all(inputs::header_window(events, most), room);
+// What stands in the first 24 bytes of the events.
+fn header_in(head: Window, room: &[u8]) -> Start
+    requires { ⌜ (Within head) × (length (now room) ≡ 65536) ⌝ }
+{
+    let at = head.at;
+    let end = head.end;
+    recording::open(&room[at..end])
+}
+
+fn run_in(
+    events: i32,
+    far: i32,
+    near: i32,
+    most: Most,
+    goal: Goal,
+    watched: bool,
+    room: &mut [u8],
+) -> Outcome
+    requires { ⌜ length (now room) ≡ 65536 ⌝ }
+{
+    let sink = replay_sink::fresh(goal, watched);
+    let head = window::read_all(replay_inputs::header_window(events, most), room);
     if head.failed {
         return Outcome::Unread(1);
     }
-    let at = head.at;
-    let end = head.end;
-    match recording::open(&room[at..end]) {
-        Start::BadHeader => unopened(to, room),
+    match header_in(head, room) {
+        Start::BadHeader => replay_close::unopened(sink, watched, room),
         Start::Opened(header) => opened(
             header,
-            inputs::announced(events, far, near, header, most),
-            to,
+            replay_inputs::announced(events, far, near, header, most),
+            sink,
+            watched,
         ),
     }
+}
+
+// Replays the recording in three open files, each of at most so many bytes from where it stands. Of the events only the header is read before it is known.
+pub fn run(events: i32, far: i32, near: i32, most: Most, goal: Goal, watched: bool) -> Outcome {
+    let mut room = io::large_buffer();
+    run_in(events, far, near, most, goal, watched, &mut room)
 }

@@ -2,8 +2,9 @@
 use libc::STDOUT_FILENO;
 use pipes::named;
 use pipes::told;
-use replay_host::Outcome;
-use replay_host::inputs::Most;
+use replay_close::Outcome;
+use replay_inputs::Most;
+use replay_sink::Goal;
 
 fn whole_files() -> Most {
     Most {
@@ -35,6 +36,7 @@ fn status_of(outcome: Outcome, events: &[u8], far: &[u8], near: &[u8]) -> u64 {
     match outcome {
         Outcome::Done => 0,
         Outcome::Amiss => 4,
+        Outcome::Wrong => 3,
         Outcome::Unread(input) => {
             name_unread(input, events, far, near);
             1
@@ -60,7 +62,14 @@ fn replayed(events: &[u8], far: &[u8], near: &[u8]) -> u64 {
     if n < 0 {
         return 1;
     }
-    let outcome = replay_host::run(e, f, n, whole_files(), STDOUT_FILENO, told::watched());
+    let outcome = replay_host::run(
+        e,
+        f,
+        n,
+        whole_files(),
+        Goal::Write(STDOUT_FILENO),
+        told::watched(),
+    );
     status_of(outcome, events, far, near)
 }
 

@@ -1,6 +1,6 @@
 -- `parts_walks::inputs::past` meets its contract.
 use borrow.Author.Needs.{needs}
-use Rattle.parts_walks.proofs.Moving.{passes}
+use Rattle.pipes.proofs.Going.{passes}
 use Rattle.parts_walks.proofs.inputs.past.Statement.{statement}
 use Rattle.parts_walks.proofs.inputs.past.Tie as tie
 use Rattle.parts_walks.proofs.inputs.past.Reads as reads

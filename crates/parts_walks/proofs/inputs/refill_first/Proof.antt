@@ -1,6 +1,7 @@
 -- `parts_walks::inputs::refill_first` meets its contract.
 use borrow.Author.Needs.{needs}
-use Rattle.parts_walks.proofs.Moving.{grows, still}
+use Rattle.pipes.proofs.Going.{grows}
+use Rattle.parts_walks.proofs.Moving.{still}
 use Rattle.parts_walks.proofs.inputs.refill_first.Statement.{statement}
 use Rattle.parts_walks.proofs.inputs.refill_first.Tie as tie
 use Rattle.parts_walks.proofs.inputs.refill_first.Reads as reads

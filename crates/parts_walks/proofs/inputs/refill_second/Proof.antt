@@ -1,6 +1,7 @@
 -- `parts_walks::inputs::refill_second` meets its contract.
 use borrow.Author.Needs.{needs}
-use Rattle.parts_walks.proofs.Moving.{grows, still}
+use Rattle.pipes.proofs.Going.{grows}
+use Rattle.parts_walks.proofs.Moving.{still}
 use Rattle.parts_walks.proofs.inputs.refill_second.Statement.{statement}
 use Rattle.parts_walks.proofs.inputs.refill_second.Tie as tie
 use Rattle.parts_walks.proofs.inputs.refill_second.Reads as reads

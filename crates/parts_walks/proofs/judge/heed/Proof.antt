@@ -1,7 +1,7 @@
 -- `parts_walks::judge::heed` meets its contract, arm by arm.
 use borrow.Author.Needs.{needs}
 use mathlib.Core.Path.{refl}
-use Rattle.parts_walks.proofs.Moving.{passes, grows}
+use Rattle.pipes.proofs.Going.{passes, grows}
 use Rattle.parts_walks.proofs.Judging.{heeds}
 use Rattle.parts_walks.proofs.judge.heed.Statement.{statement}
 use Rattle.parts_walks.proofs.judge.heed.Tie as tie

@@ -1,0 +1,3 @@
+pub mod Holding
+pub mod Seeking
+pub mod Determined

@@ -1,0 +1,3 @@
+-- A log held against the lines that should stand in it, line by line.
+pub mod Held
+pub mod Reading

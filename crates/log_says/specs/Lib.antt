@@ -1,0 +1,3 @@
+-- What is printed of the verdict on a log.
+pub mod Says
+pub mod Calls
