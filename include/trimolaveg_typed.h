@@ -234,6 +234,12 @@ struct tmv_scan {
             TMV_COUNT((scratch).window)                                                                                   \
     }
 
+/* Whether memory is large enough, and aligned for a double. */
+static inline bool tmvt_serves(const void *memory, size_t bytes, size_t least)
+{
+    return bytes >= least && (uintptr_t)memory % sizeof(double) == 0;
+}
+
 /* Does the same for settings that are known only at run time. The memory must have TMV_SCAN_KEPT_BYTES and TMV_SCAN_SCRATCH_BYTES, or more, must be aligned for a double, and must never be used as anything else.
  * Refuses with 1 if rate or ceiling is outside the table, and with 2 if the memory is too small or not so aligned. */
 TMV_CALL tmvt_scan_lend(struct tmv_scan *scan, uint32_t rate, uint32_t ceiling, void *kept, size_t kept_bytes, void *scratch, size_t scratch_bytes)
@@ -243,7 +249,7 @@ TMV_CALL tmvt_scan_lend(struct tmv_scan *scan, uint32_t rate, uint32_t ceiling, 
     const size_t window = (size_t)tmv_scan_window_len(rate, ceiling);
     if (lags == 0)
         return TMVT_OUTSIDE_TABLE;
-    if (kept_bytes < TMV_SCAN_KEPT_BYTES(rate, ceiling) || scratch_bytes < TMV_SCAN_SCRATCH_BYTES(rate, ceiling) || (uintptr_t)kept % sizeof(double) != 0 || (uintptr_t)scratch % sizeof(double) != 0)
+    if (!tmvt_serves(kept, kept_bytes, TMV_SCAN_KEPT_BYTES(rate, ceiling)) || !tmvt_serves(scratch, scratch_bytes, TMV_SCAN_SCRATCH_BYTES(rate, ceiling)))
         return TMVT_WRONG_LENGTH;
     memset(scan->state, 0, sizeof scan->state);
     scan->lag_sums = (double *)kept;
@@ -278,6 +284,35 @@ struct tmv_region {
     double correlation;
 };
 
+TMV_CALL tmvt_taking_of(uint32_t number, enum tmv_taking *taking)
+{
+    if (tmvt_answered(number))
+        *taking = (enum tmv_taking)number;
+    return tmvt_refusal_of(number);
+}
+
+TMV_CALL tmvt_frame_of(uint32_t number, const uint64_t values[3], struct tmv_frame *frame)
+{
+    if (tmvt_answered(number)) {
+        frame->kind = (enum tmv_frame_kind)number;
+        frame->peak = number == TMV_FRAME_BANKED ? tmvt_float((uint32_t)values[0]) : 0;
+        frame->delay = number == TMV_FRAME_REGION ? values[0] : 0;
+        frame->correlation = number == TMV_FRAME_REGION ? tmvt_double(values[1]) : 0;
+        frame->products = values[2];
+    }
+    return tmvt_refusal_of(number);
+}
+
+TMV_CALL tmvt_region_of(uint32_t number, const uint64_t values[2], struct tmv_region *region)
+{
+    if (tmvt_answered(number)) {
+        region->found = number == TMV_REGION_AT;
+        region->delay = values[0];
+        region->correlation = tmvt_double(values[1]);
+    }
+    return tmvt_refusal_of(number);
+}
+
 TMV_CALL tmvt_scan_new(struct tmv_scan *scan, uint32_t rate, uint32_t ceiling)
 {
     return tmvt_refusal_of(tmv_scan_new(scan->state, TMV_SCAN_WORDS, scan->envelope, scan->envelope_len, scan->lag_sums, scan->lag_sums_len, rate, ceiling));
@@ -305,10 +340,7 @@ TMV_CALL tmvt_scan_push_far(struct tmv_scan *scan, const float *samples, size_t 
 
 TMV_CALL tmvt_scan_push_near(struct tmv_scan *scan, float sample, uint64_t index, enum tmv_taking *taking)
 {
-    const uint32_t number = tmv_scan_push_near(scan->state, TMV_SCAN_WORDS, scan->levels, scan->levels_len, sample, index);
-    if (tmvt_answered(number))
-        *taking = (enum tmv_taking)number;
-    return tmvt_refusal_of(number);
+    return tmvt_taking_of(tmv_scan_push_near(scan->state, TMV_SCAN_WORDS, scan->levels, scan->levels_len, sample, index), taking);
 }
 
 /* `taken` is how many of the samples were taken. */
@@ -316,11 +348,9 @@ TMV_CALL tmvt_scan_push_near_run(struct tmv_scan *scan, const float *samples, si
 {
     uint64_t values[1] = {0};
     const uint32_t number = tmv_scan_push_near_run(scan->state, TMV_SCAN_WORDS, scan->levels, scan->levels_len, samples, count, first, values, 1);
-    if (tmvt_answered(number)) {
-        *taking = (enum tmv_taking)number;
+    if (tmvt_answered(number))
         *taken = (size_t)values[0];
-    }
-    return tmvt_refusal_of(number);
+    return tmvt_taking_of(number, taking);
 }
 
 TMV_CALL tmvt_scan_observe(struct tmv_scan *scan, struct tmv_frame *frame)
@@ -328,26 +358,14 @@ TMV_CALL tmvt_scan_observe(struct tmv_scan *scan, struct tmv_frame *frame)
     uint64_t values[3] = {0, 0, 0};
     const uint32_t number = tmv_scan_observe(scan->state, TMV_SCAN_WORDS, scan->envelope, scan->envelope_len, scan->levels, scan->levels_len, scan->window, scan->window_len, scan->prefix,
                                              scan->prefix_len, scan->squares, scan->squares_len, scan->scores, scan->scores_len, scan->lag_sums, scan->lag_sums_len, values, 3);
-    if (tmvt_answered(number)) {
-        frame->kind = (enum tmv_frame_kind)number;
-        frame->peak = number == TMV_FRAME_BANKED ? tmvt_float((uint32_t)values[0]) : 0;
-        frame->delay = number == TMV_FRAME_REGION ? values[0] : 0;
-        frame->correlation = number == TMV_FRAME_REGION ? tmvt_double(values[1]) : 0;
-        frame->products = values[2];
-    }
-    return tmvt_refusal_of(number);
+    return tmvt_frame_of(number, values, frame);
 }
 
 TMV_CALL tmvt_scan_region(const struct tmv_scan *scan, struct tmv_region *region)
 {
     uint64_t values[2] = {0, 0};
     const uint32_t number = tmv_scan_region(scan->state, TMV_SCAN_WORDS, values, 2);
-    if (tmvt_answered(number)) {
-        region->found = number == TMV_REGION_AT;
-        region->delay = values[0];
-        region->correlation = tmvt_double(values[1]);
-    }
-    return tmvt_refusal_of(number);
+    return tmvt_region_of(number, values, region);
 }
 
 TMV_CALL tmvt_scan_bin_samples(const struct tmv_scan *scan, uint64_t *samples)
