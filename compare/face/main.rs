@@ -72,7 +72,7 @@ fn one(what: &str, seed: u64, count: u64) -> bool {
         "roots" => floats::roots(seed, count),
         "ring" => course::run::<rings::Ring>(seed, count),
         "tracker" => course::run::<trackers::Follower>(seed, count),
-        "scan" => course::run::<scans::Scan>(seed, count),
+        "scan" => course::run::<scans::Scan<scans::Full>>(seed, count),
         "fine" => course::run::<fines::Fine>(seed, count),
         "frames" => scans::frames::run(seed, count),
         "streams" => scans::streams::run(seed, count),
