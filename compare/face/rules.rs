@@ -14,6 +14,9 @@ pub const NO_FULL_FRAME: u32 = 7;
 /// Request f.
 pub const INCONSISTENT_RECORD: u32 = 9;
 
+/// Request n.
+pub const NO_SUCH_CHANNEL: u32 = 11;
+
 /// Nothing stands against the call, or the number that it is to be refused with.
 pub type Judged = Result<(), u32>;
 

@@ -30,6 +30,8 @@ pub trait Original: Sized {
     fn bring(&mut self, words: &[u64; WORDS], levels: [&[f32]; 3], sums: [&[f64]; 4]);
     /// Writes the words that the original's state has: it keeps neither rate, ceiling and bin rate nor the last index, and without a region the region's words stay.
     fn write(&self, words: &mut [u64; WORDS]);
+    /// Takes the window, the prefixes and the scores as another scan left them.
+    fn lend_scratch(&mut self, window: &[f32], sums: [&[f64]; 3]);
     fn levels(&self) -> [&[f32]; 3];
     fn sums(&self) -> [&[f64]; 4];
 }
@@ -168,6 +170,11 @@ macro_rules! originals {
                 }
                 words[22] = fields.beyond_ceiling as u64;
                 words[23] = fields.exhausted as u64;
+            }
+
+            fn lend_scratch(&mut self, window: &[f32], [prefix, squares, scores]: [&[f64]; 3]) {
+                let near = self.levels()[1].to_vec();
+                self.set_buffers([&[], &near, window], [prefix, squares, scores, &[]]);
             }
 
             fn levels(&self) -> [&[f32]; 3] {
