@@ -4,6 +4,7 @@
 use super::shape::Call;
 use super::world::World;
 use super::Pair;
+use crate::course::lend_values;
 use crate::lent::Lent;
 use crate::random::Random;
 use crate::scans::shape::Call as ScanCall;
@@ -80,7 +81,7 @@ impl Stream {
                 self.look_after(random, channel, totals)?;
             }
             if random.once_in(1000) {
-                self.make(Call::Common(ScanCall::Reset), totals)?;
+                self.make(random, Call::Common(ScanCall::Reset), totals)?;
                 totals.resets += 1;
                 self.sound.played.clear();
                 self.index = [random.below(1000), random.below(1000)];
@@ -90,7 +91,13 @@ impl Stream {
     }
 
     /// One call on both sides: the answer.
-    fn make(&mut self, call: Call, totals: &mut Totals) -> Result<u32, String> {
+    fn make(
+        &mut self,
+        random: &mut Random,
+        call: Call,
+        totals: &mut Totals,
+    ) -> Result<u32, String> {
+        lend_values(random, &mut self.world, &call);
         self.pair.lend_scratch(&self.world, &call);
         let tried = attempt(&mut self.pair, &mut self.world, &call);
         totals.calls += 1;
@@ -101,8 +108,14 @@ impl Stream {
         }
     }
 
-    fn on(&mut self, channel: usize, call: ScanCall, totals: &mut Totals) -> Result<u32, String> {
-        self.make(Call::Channel(channel as u32, call), totals)
+    fn on(
+        &mut self,
+        random: &mut Random,
+        channel: usize,
+        call: ScanCall,
+        totals: &mut Totals,
+    ) -> Result<u32, String> {
+        self.make(random, Call::Channel(channel as u32, call), totals)
     }
 
     /// Now and then one of the samples is no number first, and none is taken.
@@ -112,10 +125,10 @@ impl Stream {
             let mut spoilt = samples.clone();
             spoilt[random.below(count) as usize] = f32::NAN;
             self.world.samples = Lent::of(&spoilt);
-            self.make(Call::Common(ScanCall::PushFar), totals)?;
+            self.make(random, Call::Common(ScanCall::PushFar), totals)?;
         }
         self.world.samples = Lent::of(&samples);
-        self.make(Call::Common(ScanCall::PushFar), totals)?;
+        self.make(random, Call::Common(ScanCall::PushFar), totals)?;
         self.sound.played.extend(&samples);
         Ok(())
     }
@@ -140,10 +153,15 @@ impl Stream {
             }
             let answer = if count == 1 {
                 let (sample, index) = (heard[0], first);
-                self.on(channel, ScanCall::PushNear { sample, index }, totals)?
+                self.on(
+                    random,
+                    channel,
+                    ScanCall::PushNear { sample, index },
+                    totals,
+                )?
             } else {
                 self.world.samples = Lent::of(&heard);
-                self.on(channel, ScanCall::PushNearRun { first }, totals)?
+                self.on(random, channel, ScanCall::PushNearRun { first }, totals)?
             };
             let full = answer == 19;
             let taken = match answer {
@@ -173,11 +191,16 @@ impl Stream {
     ) -> Result<(), String> {
         if random.once_in(10) {
             let index = self.index[channel];
-            self.on(channel, ScanCall::PushNear { sample: 0.5, index }, totals)?;
-            self.make(Call::Channel(2, ScanCall::Observe), totals)?;
-            self.on(1 - channel, ScanCall::Observe, totals)?;
+            self.on(
+                random,
+                channel,
+                ScanCall::PushNear { sample: 0.5, index },
+                totals,
+            )?;
+            self.make(random, Call::Channel(2, ScanCall::Observe), totals)?;
+            self.on(random, 1 - channel, ScanCall::Observe, totals)?;
         }
-        self.on(channel, ScanCall::Observe, totals)?;
+        self.on(random, channel, ScanCall::Observe, totals)?;
         totals.frames[channel] += 1;
         Ok(())
     }
@@ -197,14 +220,15 @@ impl Stream {
             ScanCall::Exhausted,
         ]);
         for channel in 0..2 {
-            self.on(channel, asked, totals)?;
+            self.on(random, channel, asked, totals)?;
         }
-        if self.on(channel, ScanCall::Finished, totals)? == 17 {
-            totals.regions[channel] += (self.on(channel, ScanCall::Region, totals)? == 17) as u64;
-            self.on(channel, ScanCall::Rearm, totals)?;
+        if self.on(random, channel, ScanCall::Finished, totals)? == 17 {
+            totals.regions[channel] +=
+                (self.on(random, channel, ScanCall::Region, totals)? == 17) as u64;
+            self.on(random, channel, ScanCall::Rearm, totals)?;
         } else if random.once_in(100) {
             let call = random.one_of(&[ScanCall::Rearm, ScanCall::DiscardNear]);
-            self.on(channel, call, totals)?;
+            self.on(random, channel, call, totals)?;
         }
         Ok(())
     }
