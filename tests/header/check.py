@@ -8,7 +8,8 @@ HEADER = pathlib.Path("include/trimolaveg.h")
 FACE = [f"crates/{part}_face/src" for part in ("version", "floats", "ring", "scan", "scan_handover", "scan_pair", "tracker", "fine", "fine_handover", "ring_window")]
 # Where an answer's case gets its number.
 NUMBERING = [*FACE, "crates/ring_words/src", "crates/scan_words/src", "crates/tracker_words/src", "crates/fine_words/src"]
-REFUSALS = "crates/answers/src"
+# A part may have a refusal of its own.
+REFUSALS = ["crates/answers/src", "crates/scan_pair/src"]
 
 # What a parameter is called in C where its name in the face is a keyword of compilers for small processors.
 C_NAMES = {"near": "near_frame", "far": "far_window"}
@@ -94,7 +95,7 @@ def main():
         if not answers or not words or words[1] != str(number):
             wrong.append(f"{name} is {number}, and {name.lower()} does not answer it")
 
-    refusals = dict(re.findall(r"pub const (\w+): u8 = (\d+);", sources(REFUSALS)))
+    refusals = dict(re.findall(r"pub const (\w+): u8 = (\d+);", all_sources(REFUSALS)))
     for name, number in refusals.items():
         if named.get(f"TMV_{name}", (None,))[0] != int(number):
             wrong.append(f"TMV_{name} is not {number}")
