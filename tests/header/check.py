@@ -11,6 +11,9 @@ NUMBERING = [*FACE, "crates/ring_words/src", "crates/scan_words/src", "crates/tr
 # A part may have a refusal of its own.
 REFUSALS = ["crates/answers/src", "crates/scan_pair/src"]
 
+# Where a state's layout stands if not in the crate of its name.
+LAYOUTS = {"pair_words": "scan_pair_words"}
+
 # What a parameter is called in C where its name in the face is a keyword of compilers for small processors.
 C_NAMES = {"near": "near_frame", "far": "far_window"}
 C_TYPES = {"u32": "uint32_t", "u64": "uint64_t", "f32": "float", "f64": "double", "": "void"}
@@ -89,7 +92,7 @@ def main():
     for name, (number, _) in named.items():
         if not name.endswith("_WORDS"):
             continue
-        layout = name.removeprefix("TMV_").lower()
+        layout = LAYOUTS.get(name.removeprefix("TMV_").lower(), name.removeprefix("TMV_").lower())
         words = re.search(r"pub const WORDS: usize = (\d+);", sources(f"crates/{layout}/src"))
         answers = re.search(name.lower() + r"\(\) -> u64[^{]*(?:\{[^{}]*\}[^{]*)?\{\s*" + layout + r"::WORDS as u64\s*\}", face)
         if not answers or not words or words[1] != str(number):
