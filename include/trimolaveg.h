@@ -8,12 +8,12 @@
  *     elements, and must not be NULL even if there are none. Two lists of one call must not overlap unless both are only read.
  *   - A state is a list of 64-bit words, which the caller keeps between calls. Its layout is below. Each call checks for itself
  *     whether the words are a valid state. Floats are stored as IEEE 754 bit patterns, an f32 in the low half of its word. Flags are 0 and 1.
- *   - Every call returns a number. Below 16 it is a refusal (TMV_OUTSIDE_TABLE to TMV_INCONSISTENT_RECORD), and the call has written
+ *   - Every call returns a number. Below 16 it is a refusal (TMV_OUTSIDE_TABLE to TMV_NO_SUCH_CHANNEL), and the call has written
  *     nothing that was lent to it: neither state nor buffers nor values. From 16 on it says which answer it is.
  *   - An answer that has values writes them into `values`. The length of `values` must be what the call asks for, whichever answer comes. An answer
  *     without values leaves `values` unchanged.
  *
- * Refusals are judged in this order: 1, 2, 3, then 9, then 6 or 7, then 5, then 4. A call that makes a state judges the rate, ceiling or span that it is given (1), then
+ * Refusals are judged in this order: 11, 1, 2, 3, then 9, then 6 or 7, then 5, then 4. A call that makes a state judges the rate, ceiling or span that it is given (1), then
  * the length of the state (2). Any other call has to read these settings from the state, so it judges the length of the state first (2), then the state's own rate,
  * ceiling or span (1), then the length of the values (2), then the buffers (2) and the rest.
  * Each call below says which refusals it can give and why. Every call on a state whose own rate, ceiling or span is outside the table also returns TMV_OUTSIDE_TABLE,
@@ -79,6 +79,7 @@ uint32_t tmv_version(void);
 #define TMV_FRAME_WAITS 6   /* a near sample is offered while a full frame waits */
 #define TMV_NO_FULL_FRAME 7 /* a frame is to be scored and none is full */
 #define TMV_INCONSISTENT_RECORD 9 /* the tracker's record is inconsistent: its largest run of contradicting cycles is below the current one */
+#define TMV_NO_SUCH_CHANNEL 11 /* the channel number of a pair is not 0 or 1 */
 
 /* ---- answers. A number of 16 or more is not a refusal. */
 
@@ -88,7 +89,7 @@ uint32_t tmv_version(void);
 #define TMV_NO 16 /* from a report that is a flag */
 #define TMV_YES 17
 
-/* from tmv_scan_push_near, and all but TMV_TAKING_DROPPED from tmv_scan_push_near_run */
+/* from tmv_scan_push_near, and all but TMV_TAKING_DROPPED from tmv_scan_push_near_run; a pair's calls give the answers of the scan's calls */
 #define TMV_TAKING_IGNORED 16 /* scan::Taking::Ignored: the scan is finished */
 #define TMV_TAKING_DROPPED 17 /* scan::Taking::Dropped: no frame is under way, and none begins at this index */
 #define TMV_TAKING_TAKEN 18   /* scan::Taking::Taken */
@@ -155,6 +156,7 @@ uint32_t tmv_version(void);
 
 #define TMV_RING_WORDS 1
 #define TMV_SCAN_WORDS 25
+#define TMV_PAIR_WORDS 38
 #define TMV_TRACKER_WORDS 15
 #define TMV_FINE_WORDS 14
 
@@ -284,6 +286,49 @@ uint32_t tmv_scan_region(const uint64_t *state, size_t state_len, uint64_t *valu
 uint32_t tmv_scan_beyond_ceiling(const uint64_t *state, size_t state_len);
 uint32_t tmv_scan_finished(const uint64_t *state, size_t state_len);
 uint32_t tmv_scan_exhausted(const uint64_t *state, size_t state_len);
+
+/* ---- the pair: two microphones, one loudspeaker. One far history serves two near scans, channel 0 and channel 1, each with its own near frame, sums and verdict.
+ *
+ * Words: 0 to 11 are the common part, settings and far side, as words 0 to 11 of a scan. 12 to 24 are channel 0's, as words 12 to 24 of a scan; 25 to 37 are channel 1's in the same order.
+ * Rules: those of a scan, for the common part with each channel.
+ *
+ * Lists have the lengths that the tmv_scan_ functions return. The envelope is common. Levels and lag sums are kept for each channel. Window, prefixes and scores are scratch that both channels may be lent.
+ *
+ * A call that names a channel does on it what the tmv_scan_ call of the same name does on a scan: same answers, values and refusals. It neither reads nor writes the other channel's words, and is not lent its lists, so
+ * nothing that one channel is fed, refused, rearmed or discarded shows in what the other answers.
+ * Every call that names a channel refuses with 11 if the number is not 0 or 1, before it judges anything else, the length of the state included. Then it judges the common part and the channel's own words and
+ * lists alone. tmv_pair_push_far and the two reports of the settings judge the common part alone. tmv_pair_reset judges all of it. Otherwise they refuse as a scan's calls do: with 2 if the state does not have
+ * 38 words (tmv_pair_new judges this after 1), with 1, 2 and 3. */
+
+uint64_t tmv_pair_words(void);
+
+/* Makes a new pair. Zeroes the envelope and both lag sums. */
+uint32_t tmv_pair_new(uint64_t *state, size_t state_len, float *envelope, size_t envelope_len, double *first_lag_sums, size_t first_lag_sums_len, double *second_lag_sums, size_t second_lag_sums_len, uint32_t rate, uint32_t ceiling);
+
+/* Returns the pair to the state in which it was made, and so begins the numbering of both channels anew. Zeroes the envelope and both lag sums. There is no reset of one channel. */
+uint32_t tmv_pair_reset(uint64_t *state, size_t state_len, float *envelope, size_t envelope_len, double *first_lag_sums, size_t first_lag_sums_len, double *second_lag_sums, size_t second_lag_sums_len);
+
+/* Takes far samples for both channels, even if both are finished. Also refuses with 5 and 4, as tmv_scan_push_far does. */
+uint32_t tmv_pair_push_far(uint64_t *state, size_t state_len, float *envelope, size_t envelope_len, const float *samples, size_t samples_len);
+
+/* As the scan's calls of these names, on one channel, with that channel's levels and lag sums. values: 1 word for a run, 3 for tmv_pair_observe. */
+uint32_t tmv_pair_push_near(uint64_t *state, size_t state_len, uint32_t channel, float *levels, size_t levels_len, float sample, uint64_t index);
+uint32_t tmv_pair_push_near_run(uint64_t *state, size_t state_len, uint32_t channel, float *levels, size_t levels_len, const float *samples, size_t samples_len, uint64_t first, uint64_t *values, size_t values_len);
+uint32_t tmv_pair_observe(uint64_t *state, size_t state_len, uint32_t channel, const float *envelope, size_t envelope_len, const float *levels, size_t levels_len, float *window, size_t window_len, double *prefix, size_t prefix_len, double *squares, size_t squares_len, double *scores, size_t scores_len, double *lag_sums, size_t lag_sums_len, uint64_t *values, size_t values_len);
+uint32_t tmv_pair_rearm(uint64_t *state, size_t state_len, uint32_t channel, double *lag_sums, size_t lag_sums_len);
+uint32_t tmv_pair_discard_near(uint64_t *state, size_t state_len, uint32_t channel, double *lag_sums, size_t lag_sums_len);
+
+/* Reports of one channel. values: 1 word each, 2 for the region. */
+uint32_t tmv_pair_frames(const uint64_t *state, size_t state_len, uint32_t channel, uint64_t *values, size_t values_len);
+uint32_t tmv_pair_correlation(const uint64_t *state, size_t state_len, uint32_t channel, uint64_t *values, size_t values_len);
+uint32_t tmv_pair_region(const uint64_t *state, size_t state_len, uint32_t channel, uint64_t *values, size_t values_len);
+uint32_t tmv_pair_beyond_ceiling(const uint64_t *state, size_t state_len, uint32_t channel);
+uint32_t tmv_pair_finished(const uint64_t *state, size_t state_len, uint32_t channel);
+uint32_t tmv_pair_exhausted(const uint64_t *state, size_t state_len, uint32_t channel);
+
+/* Reports of the settings, which both channels share. values: 1 word. */
+uint32_t tmv_pair_bin_samples(const uint64_t *state, size_t state_len, uint64_t *values, size_t values_len);
+uint32_t tmv_pair_ceiling_samples(const uint64_t *state, size_t state_len, uint64_t *values, size_t values_len);
 
 /* ---- the fine stage: says which frames count, and what a correlation's peak means. The host runs the transform. docs/INTEGRATION.md says what to transform, and in which order to call.
  *

@@ -48,6 +48,11 @@
 /* The most products that the lag sums of one frame can take: tmv_scan_observe tells how many it was (docs/WORK.md has this at the usual settings). */
 #define TMV_SCAN_MOST_PRODUCTS(rate, ceiling) (TMV_SCAN_LAGS_LEN(rate, ceiling) * TMV_SCAN_LEVELS_LEN(rate, ceiling))
 
+/* ---- the pair: one envelope, and levels and lag sums for each of two channels. The state takes another 8 * TMV_PAIR_WORDS bytes. Scratch is one scan's. */
+
+#define TMV_PAIR_KEPT_BYTES(rate, ceiling) (16UL * TMV_SCAN_LAGS_LEN(rate, ceiling) + 4UL * TMV_SCAN_ENVELOPE_LEN(rate, ceiling) + 8UL * TMV_SCAN_LEVELS_LEN(rate, ceiling))
+#define TMV_PAIR_SCRATCH_BYTES(rate, ceiling) TMV_SCAN_SCRATCH_BYTES(rate, ceiling)
+
 /* ---- the fine stage (docs/SPECIFICATION.md, section 9) */
 
 #define TMV_SPAN_ALLOWED(span) ((span) >= 1UL && (span) <= 32768UL)

@@ -16,7 +16,7 @@
  * examples/c/scan.c has this as a program. If rate and ceiling are known only at run time, tmvt_scan_lend divides memory from anywhere into the lists.
  *
  * Threads and interrupts: there is no state besides what the caller lends, so calls on different structs may run at the same time, even in an interrupt. Two calls on one struct, or on two that share
- * scratch, may not. Every call ends after a number of steps that the lengths of its lists bound. docs/MEMORY.md lists the stack that each takes.
+ * scratch, may not, nor may two on the channels of one pair. Every call ends after a number of steps that the lengths of its lists bound. docs/MEMORY.md lists the stack that each takes.
  *
  * What survives an update: the numbers of refusals and answers stay the same within a major version, and from 1.0.0 on so do the words of a state. Before that, make each state anew after an update;
  * CHANGELOG.md names each change of a layout. The compiler lays out the structs of this header: recompile what uses them.
@@ -47,7 +47,8 @@
     each(TOO_LARGE, "number of 2^62 or more")         \
     each(FRAME_WAITS, "a full frame waits")           \
     each(NO_FULL_FRAME, "no full frame")              \
-    each(INCONSISTENT_RECORD, "inconsistent record")
+    each(INCONSISTENT_RECORD, "inconsistent record")  \
+    each(NO_SUCH_CHANNEL, "no such channel")
 #define TMV_TAKINGS(each)              \
     each(TAKING_IGNORED, "ignored")    \
     each(TAKING_DROPPED, "dropped")    \
@@ -234,6 +235,12 @@ struct tmv_scan {
             TMV_COUNT((scratch).window)                                                                                   \
     }
 
+/* Whether memory is large enough, and aligned for a double. */
+static inline bool tmvt_serves(const void *memory, size_t bytes, size_t least)
+{
+    return bytes >= least && (uintptr_t)memory % sizeof(double) == 0;
+}
+
 /* Does the same for settings that are known only at run time. The memory must have TMV_SCAN_KEPT_BYTES and TMV_SCAN_SCRATCH_BYTES, or more, must be aligned for a double, and must never be used as anything else.
  * Refuses with 1 if rate or ceiling is outside the table, and with 2 if the memory is too small or not so aligned. */
 TMV_CALL tmvt_scan_lend(struct tmv_scan *scan, uint32_t rate, uint32_t ceiling, void *kept, size_t kept_bytes, void *scratch, size_t scratch_bytes)
@@ -243,7 +250,7 @@ TMV_CALL tmvt_scan_lend(struct tmv_scan *scan, uint32_t rate, uint32_t ceiling, 
     const size_t window = (size_t)tmv_scan_window_len(rate, ceiling);
     if (lags == 0)
         return TMVT_OUTSIDE_TABLE;
-    if (kept_bytes < TMV_SCAN_KEPT_BYTES(rate, ceiling) || scratch_bytes < TMV_SCAN_SCRATCH_BYTES(rate, ceiling) || (uintptr_t)kept % sizeof(double) != 0 || (uintptr_t)scratch % sizeof(double) != 0)
+    if (!tmvt_serves(kept, kept_bytes, TMV_SCAN_KEPT_BYTES(rate, ceiling)) || !tmvt_serves(scratch, scratch_bytes, TMV_SCAN_SCRATCH_BYTES(rate, ceiling)))
         return TMVT_WRONG_LENGTH;
     memset(scan->state, 0, sizeof scan->state);
     scan->lag_sums = (double *)kept;
@@ -278,6 +285,35 @@ struct tmv_region {
     double correlation;
 };
 
+TMV_CALL tmvt_taking_of(uint32_t number, enum tmv_taking *taking)
+{
+    if (tmvt_answered(number))
+        *taking = (enum tmv_taking)number;
+    return tmvt_refusal_of(number);
+}
+
+TMV_CALL tmvt_frame_of(uint32_t number, const uint64_t values[3], struct tmv_frame *frame)
+{
+    if (tmvt_answered(number)) {
+        frame->kind = (enum tmv_frame_kind)number;
+        frame->peak = number == TMV_FRAME_BANKED ? tmvt_float((uint32_t)values[0]) : 0;
+        frame->delay = number == TMV_FRAME_REGION ? values[0] : 0;
+        frame->correlation = number == TMV_FRAME_REGION ? tmvt_double(values[1]) : 0;
+        frame->products = values[2];
+    }
+    return tmvt_refusal_of(number);
+}
+
+TMV_CALL tmvt_region_of(uint32_t number, const uint64_t values[2], struct tmv_region *region)
+{
+    if (tmvt_answered(number)) {
+        region->found = number == TMV_REGION_AT;
+        region->delay = values[0];
+        region->correlation = tmvt_double(values[1]);
+    }
+    return tmvt_refusal_of(number);
+}
+
 TMV_CALL tmvt_scan_new(struct tmv_scan *scan, uint32_t rate, uint32_t ceiling)
 {
     return tmvt_refusal_of(tmv_scan_new(scan->state, TMV_SCAN_WORDS, scan->envelope, scan->envelope_len, scan->lag_sums, scan->lag_sums_len, rate, ceiling));
@@ -305,10 +341,7 @@ TMV_CALL tmvt_scan_push_far(struct tmv_scan *scan, const float *samples, size_t 
 
 TMV_CALL tmvt_scan_push_near(struct tmv_scan *scan, float sample, uint64_t index, enum tmv_taking *taking)
 {
-    const uint32_t number = tmv_scan_push_near(scan->state, TMV_SCAN_WORDS, scan->levels, scan->levels_len, sample, index);
-    if (tmvt_answered(number))
-        *taking = (enum tmv_taking)number;
-    return tmvt_refusal_of(number);
+    return tmvt_taking_of(tmv_scan_push_near(scan->state, TMV_SCAN_WORDS, scan->levels, scan->levels_len, sample, index), taking);
 }
 
 /* `taken` is how many of the samples were taken. */
@@ -316,11 +349,9 @@ TMV_CALL tmvt_scan_push_near_run(struct tmv_scan *scan, const float *samples, si
 {
     uint64_t values[1] = {0};
     const uint32_t number = tmv_scan_push_near_run(scan->state, TMV_SCAN_WORDS, scan->levels, scan->levels_len, samples, count, first, values, 1);
-    if (tmvt_answered(number)) {
-        *taking = (enum tmv_taking)number;
+    if (tmvt_answered(number))
         *taken = (size_t)values[0];
-    }
-    return tmvt_refusal_of(number);
+    return tmvt_taking_of(number, taking);
 }
 
 TMV_CALL tmvt_scan_observe(struct tmv_scan *scan, struct tmv_frame *frame)
@@ -328,26 +359,14 @@ TMV_CALL tmvt_scan_observe(struct tmv_scan *scan, struct tmv_frame *frame)
     uint64_t values[3] = {0, 0, 0};
     const uint32_t number = tmv_scan_observe(scan->state, TMV_SCAN_WORDS, scan->envelope, scan->envelope_len, scan->levels, scan->levels_len, scan->window, scan->window_len, scan->prefix,
                                              scan->prefix_len, scan->squares, scan->squares_len, scan->scores, scan->scores_len, scan->lag_sums, scan->lag_sums_len, values, 3);
-    if (tmvt_answered(number)) {
-        frame->kind = (enum tmv_frame_kind)number;
-        frame->peak = number == TMV_FRAME_BANKED ? tmvt_float((uint32_t)values[0]) : 0;
-        frame->delay = number == TMV_FRAME_REGION ? values[0] : 0;
-        frame->correlation = number == TMV_FRAME_REGION ? tmvt_double(values[1]) : 0;
-        frame->products = values[2];
-    }
-    return tmvt_refusal_of(number);
+    return tmvt_frame_of(number, values, frame);
 }
 
 TMV_CALL tmvt_scan_region(const struct tmv_scan *scan, struct tmv_region *region)
 {
     uint64_t values[2] = {0, 0};
     const uint32_t number = tmv_scan_region(scan->state, TMV_SCAN_WORDS, values, 2);
-    if (tmvt_answered(number)) {
-        region->found = number == TMV_REGION_AT;
-        region->delay = values[0];
-        region->correlation = tmvt_double(values[1]);
-    }
-    return tmvt_refusal_of(number);
+    return tmvt_region_of(number, values, region);
 }
 
 TMV_CALL tmvt_scan_bin_samples(const struct tmv_scan *scan, uint64_t *samples)
@@ -385,6 +404,170 @@ TMV_CALL tmvt_scan_finished(const struct tmv_scan *scan, bool *finished)
 TMV_CALL tmvt_scan_exhausted(const struct tmv_scan *scan, bool *exhausted)
 {
     return tmvt_flag_of(tmv_scan_exhausted(scan->state, TMV_SCAN_WORDS), exhausted);
+}
+
+/* ---- the pair: two microphones, one loudspeaker. A channel is 0 or 1; any other number is refused with 11. */
+
+struct tmv_pair {
+    uint64_t state[TMV_PAIR_WORDS];
+    /* kept between calls: the envelope for both, the others by channel */
+    float *envelope;
+    size_t envelope_len;
+    double *lag_sums[2];
+    size_t lag_sums_len;
+    float *levels[2];
+    size_t levels_len;
+    /* scratch, which scans and pairs may share */
+    double *prefix;
+    size_t prefix_len;
+    double *squares;
+    size_t squares_len;
+    double *scores;
+    size_t scores_len;
+    float *window;
+    size_t window_len;
+};
+
+/* The kept memory of one pair, for settings that are constants. Its scratch is a TMV_SCAN_SCRATCH. */
+#define TMV_PAIR_KEPT(rate, ceiling)                           \
+    struct {                                                   \
+        double lag_sums[2][TMV_SCAN_LAGS_LEN(rate, ceiling)];  \
+        float envelope[TMV_SCAN_ENVELOPE_LEN(rate, ceiling)];  \
+        float levels[2][TMV_SCAN_LEVELS_LEN(rate, ceiling)];   \
+    }
+#define TMV_PAIR_SCRATCH(rate, ceiling) TMV_SCAN_SCRATCH(rate, ceiling)
+
+/* Initializes a struct tmv_pair over two such objects. */
+#define TMV_PAIR_OVER(kept, scratch)                                                                                             \
+    {                                                                                                                            \
+        {0}, (kept).envelope, TMV_COUNT((kept).envelope), {(kept).lag_sums[0], (kept).lag_sums[1]}, TMV_COUNT((kept).lag_sums[0]), \
+            {(kept).levels[0], (kept).levels[1]}, TMV_COUNT((kept).levels[0]), (scratch).prefix, TMV_COUNT((scratch).prefix),     \
+            (scratch).squares, TMV_COUNT((scratch).squares), (scratch).scores, TMV_COUNT((scratch).scores), (scratch).window,     \
+            TMV_COUNT((scratch).window)                                                                                          \
+    }
+
+/* Divides memory as tmvt_scan_lend does: TMV_PAIR_KEPT_BYTES and TMV_PAIR_SCRATCH_BYTES, or more. */
+TMV_CALL tmvt_pair_lend(struct tmv_pair *pair, uint32_t rate, uint32_t ceiling, void *kept, size_t kept_bytes, void *scratch, size_t scratch_bytes)
+{
+    const size_t lags = (size_t)tmv_scan_lags_len(rate, ceiling), prefix = (size_t)tmv_scan_prefix_len(rate, ceiling);
+    if (lags == 0)
+        return TMVT_OUTSIDE_TABLE;
+    if (!tmvt_serves(kept, kept_bytes, TMV_PAIR_KEPT_BYTES(rate, ceiling)) || !tmvt_serves(scratch, scratch_bytes, TMV_PAIR_SCRATCH_BYTES(rate, ceiling)))
+        return TMVT_WRONG_LENGTH;
+    memset(pair->state, 0, sizeof pair->state);
+    pair->lag_sums_len = lags;
+    pair->lag_sums[0] = (double *)kept;
+    pair->lag_sums[1] = pair->lag_sums[0] + lags;
+    pair->envelope = (float *)(pair->lag_sums[1] + lags);
+    pair->envelope_len = (size_t)tmv_scan_envelope_len(rate, ceiling);
+    pair->levels_len = (size_t)tmv_scan_levels_len(rate, ceiling);
+    pair->levels[0] = pair->envelope + pair->envelope_len;
+    pair->levels[1] = pair->levels[0] + pair->levels_len;
+    pair->prefix = (double *)scratch;
+    pair->prefix_len = prefix;
+    pair->squares = pair->prefix + prefix;
+    pair->squares_len = prefix;
+    pair->scores = pair->squares + prefix;
+    pair->scores_len = lags;
+    pair->window = (float *)(pair->scores + lags);
+    pair->window_len = (size_t)tmv_scan_window_len(rate, ceiling);
+    return TMVT_ACCEPTED;
+}
+
+/* The list of a channel. A number that names none gets any: the call refuses before it looks at it. */
+#define TMV_OF_CHANNEL(lists, channel) ((lists)[(channel) & 1U])
+
+TMV_CALL tmvt_pair_new(struct tmv_pair *pair, uint32_t rate, uint32_t ceiling)
+{
+    return tmvt_refusal_of(tmv_pair_new(pair->state, TMV_PAIR_WORDS, pair->envelope, pair->envelope_len, pair->lag_sums[0], pair->lag_sums_len, pair->lag_sums[1], pair->lag_sums_len, rate, ceiling));
+}
+
+TMV_CALL tmvt_pair_reset(struct tmv_pair *pair)
+{
+    return tmvt_refusal_of(tmv_pair_reset(pair->state, TMV_PAIR_WORDS, pair->envelope, pair->envelope_len, pair->lag_sums[0], pair->lag_sums_len, pair->lag_sums[1], pair->lag_sums_len));
+}
+
+TMV_CALL tmvt_pair_push_far(struct tmv_pair *pair, const float *samples, size_t count)
+{
+    return tmvt_refusal_of(tmv_pair_push_far(pair->state, TMV_PAIR_WORDS, pair->envelope, pair->envelope_len, samples, count));
+}
+
+TMV_CALL tmvt_pair_push_near(struct tmv_pair *pair, uint32_t channel, float sample, uint64_t index, enum tmv_taking *taking)
+{
+    return tmvt_taking_of(tmv_pair_push_near(pair->state, TMV_PAIR_WORDS, channel, TMV_OF_CHANNEL(pair->levels, channel), pair->levels_len, sample, index), taking);
+}
+
+/* `taken` is how many of the samples were taken. */
+TMV_CALL tmvt_pair_push_near_run(struct tmv_pair *pair, uint32_t channel, const float *samples, size_t count, uint64_t first, enum tmv_taking *taking, size_t *taken)
+{
+    uint64_t values[1] = {0};
+    const uint32_t number = tmv_pair_push_near_run(pair->state, TMV_PAIR_WORDS, channel, TMV_OF_CHANNEL(pair->levels, channel), pair->levels_len, samples, count, first, values, 1);
+    if (tmvt_answered(number))
+        *taken = (size_t)values[0];
+    return tmvt_taking_of(number, taking);
+}
+
+TMV_CALL tmvt_pair_observe(struct tmv_pair *pair, uint32_t channel, struct tmv_frame *frame)
+{
+    uint64_t values[3] = {0, 0, 0};
+    const uint32_t number = tmv_pair_observe(pair->state, TMV_PAIR_WORDS, channel, pair->envelope, pair->envelope_len, TMV_OF_CHANNEL(pair->levels, channel), pair->levels_len, pair->window,
+                                             pair->window_len, pair->prefix, pair->prefix_len, pair->squares, pair->squares_len, pair->scores, pair->scores_len,
+                                             TMV_OF_CHANNEL(pair->lag_sums, channel), pair->lag_sums_len, values, 3);
+    return tmvt_frame_of(number, values, frame);
+}
+
+TMV_CALL tmvt_pair_rearm(struct tmv_pair *pair, uint32_t channel)
+{
+    return tmvt_refusal_of(tmv_pair_rearm(pair->state, TMV_PAIR_WORDS, channel, TMV_OF_CHANNEL(pair->lag_sums, channel), pair->lag_sums_len));
+}
+
+TMV_CALL tmvt_pair_discard_near(struct tmv_pair *pair, uint32_t channel)
+{
+    return tmvt_refusal_of(tmv_pair_discard_near(pair->state, TMV_PAIR_WORDS, channel, TMV_OF_CHANNEL(pair->lag_sums, channel), pair->lag_sums_len));
+}
+
+TMV_CALL tmvt_pair_frames(const struct tmv_pair *pair, uint32_t channel, uint64_t *frames)
+{
+    return tmvt_refusal_of(tmv_pair_frames(pair->state, TMV_PAIR_WORDS, channel, frames, 1));
+}
+
+TMV_CALL tmvt_pair_correlation(const struct tmv_pair *pair, uint32_t channel, float *correlation)
+{
+    uint64_t bits = 0;
+    const uint32_t number = tmv_pair_correlation(pair->state, TMV_PAIR_WORDS, channel, &bits, 1);
+    return tmvt_float_of(number, bits, correlation);
+}
+
+TMV_CALL tmvt_pair_region(const struct tmv_pair *pair, uint32_t channel, struct tmv_region *region)
+{
+    uint64_t values[2] = {0, 0};
+    const uint32_t number = tmv_pair_region(pair->state, TMV_PAIR_WORDS, channel, values, 2);
+    return tmvt_region_of(number, values, region);
+}
+
+TMV_CALL tmvt_pair_beyond_ceiling(const struct tmv_pair *pair, uint32_t channel, bool *beyond)
+{
+    return tmvt_flag_of(tmv_pair_beyond_ceiling(pair->state, TMV_PAIR_WORDS, channel), beyond);
+}
+
+TMV_CALL tmvt_pair_finished(const struct tmv_pair *pair, uint32_t channel, bool *finished)
+{
+    return tmvt_flag_of(tmv_pair_finished(pair->state, TMV_PAIR_WORDS, channel), finished);
+}
+
+TMV_CALL tmvt_pair_exhausted(const struct tmv_pair *pair, uint32_t channel, bool *exhausted)
+{
+    return tmvt_flag_of(tmv_pair_exhausted(pair->state, TMV_PAIR_WORDS, channel), exhausted);
+}
+
+TMV_CALL tmvt_pair_bin_samples(const struct tmv_pair *pair, uint64_t *samples)
+{
+    return tmvt_refusal_of(tmv_pair_bin_samples(pair->state, TMV_PAIR_WORDS, samples, 1));
+}
+
+TMV_CALL tmvt_pair_ceiling_samples(const struct tmv_pair *pair, uint64_t *samples)
+{
+    return tmvt_refusal_of(tmv_pair_ceiling_samples(pair->state, TMV_PAIR_WORDS, samples, 1));
 }
 
 /* ---- the fine stage */

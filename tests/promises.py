@@ -14,7 +14,7 @@ import sys
 ROOT = pathlib.Path(__file__).resolve().parent.parent
 CRATES = ROOT / "crates"
 # The crates whose calls a host makes.
-CALLED = ["floats", "ring", "tracker", "scan_calls", "scan_push", "scan_runs", "scan_handover", "scan_score", "fine", "fine_gate", "fine_handover", "fine_peak", "ring_window", "log_lines", "log_text", "log_parts", "log_passes", "log_report", "log_hold", "log_says", "recording", "replay", "replay_next", "version_face", "floats_face", "ring_face", "tracker_face", "fine_face", "scan_face", "scan_handover_face", "fine_handover_face", "ring_window_face"]
+CALLED = ["floats", "ring", "tracker", "scan_calls", "scan_push", "scan_runs", "scan_handover", "scan_score", "scan_pair_calls", "fine", "fine_gate", "fine_handover", "fine_peak", "ring_window", "log_lines", "log_text", "log_parts", "log_passes", "log_report", "log_hold", "log_says", "recording", "replay", "replay_next", "version_face", "floats_face", "ring_face", "tracker_face", "fine_face", "scan_face", "scan_handover_face", "scan_pair_face", "fine_handover_face", "ring_window_face"]
 # Public only for the crates above them; a host calls none of these. Each is pinned by an equation in its contract all the same.
 INNER = {
     "floats": ["bits.rt"],
@@ -23,6 +23,7 @@ INNER = {
     "scan_handover": ["fill.rt", "part.rt"],
     "scan_score": ["refusal.rt", "window.rt"],
     "ring_window": ["cutting.rt", "patterns.rt", "storing.rt", "values.rt"],
+    "scan_pair_calls": ["parts.rt", "restart.rt"],
     "log_lines": ["put", "put_line", "put_number", "put_numbers"],
     "log_hold": ["hold_next"],
     "tracker": ["evidence"],

@@ -17,6 +17,12 @@ int main(void)
     printf("| any, at most | any | %lu | %lu |\n", 8UL * TMV_SCAN_LAGS_MOST + 4UL * TMV_SCAN_ENVELOPE_MOST + 4UL * TMV_SCAN_LEVELS_MOST,
            16UL * TMV_SCAN_PREFIX_MOST + 8UL * TMV_SCAN_LAGS_MOST + 4UL * TMV_SCAN_WINDOW_MOST);
 
+    printf("\n## The pair\n\nTwo microphones, one loudspeaker: one envelope for both. State and kept lists of a pair, and of two scans in its place. Scratch is one scan's, for two scans too.\n\n");
+    printf("| Rate in Hz | Ceiling in ms | A pair | Two scans |\n|---|---|---|---|\n");
+    for (size_t i = 0; i < sizeof rates / sizeof *rates; i++)
+        for (size_t j = 0; j < sizeof ceilings / sizeof *ceilings; j++)
+            printf("| %lu | %lu | %lu | %lu |\n", rates[i], ceilings[j], 8UL * TMV_PAIR_WORDS + TMV_PAIR_KEPT_BYTES(rates[i], ceilings[j]), 2 * (8UL * TMV_SCAN_WORDS + TMV_SCAN_KEPT_BYTES(rates[i], ceilings[j])));
+
     printf("\n## The fine stage\n\nIts state has %lu bytes. Kept are the near frame and the retained one; scratch are the far window and the correlation. The transform is the host's.\n\n", 8UL * TMV_FINE_WORDS);
     printf("| Span in samples | Kept | Scratch |\n|---|---|---|\n");
     for (size_t i = 0; i < sizeof spans / sizeof *spans; i++)

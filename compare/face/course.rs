@@ -83,7 +83,7 @@ fn try_case<S: Walker>(random: &mut Random, tally: &mut Tally, case: &Case<CallO
 }
 
 /// Any words, as many as the call is to be lent.
-fn lend_values<W: Lists>(random: &mut Random, w: &mut W, call: &W::Call) {
+pub fn lend_values<W: Lists>(random: &mut Random, w: &mut W, call: &W::Call) {
     let (len, values) = (call.shape().values, w.values());
     if len > 0 && values.all().len() != len {
         *values = Lent::new(len, 0);

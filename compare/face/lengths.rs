@@ -28,11 +28,12 @@ pub fn run(seed: u64, count: u64) -> bool {
     }
     let words = [
         face::scan::words(),
+        face::pair::words(),
         face::fine::words(),
         face::tracker::words(),
         face::ring::words(),
     ];
-    if words != [25, 14, 15, 1] {
+    if words != [25, 38, 14, 15, 1] {
         different += 1;
         println!("lengths: words {words:?}");
     }

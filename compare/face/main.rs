@@ -31,6 +31,7 @@ mod floats;
 mod lengths;
 mod lent;
 mod lists;
+mod pairs;
 mod rings;
 mod rules;
 mod scans;
@@ -45,6 +46,8 @@ face roots SEED COUNT     square roots alone, one by one and in lists
 face ring SEED CALLS      the named cases, then every call in random order with random damage; so for tracker, scan and fine
 face frames SEED COUNT    frames to be scored, bit for bit
 face streams SEED SCANS   whole streams from samples
+face pair SEED CALLS      a pair beside two scans of the original, with damage to the channel that is not asked
+face pair-streams SEED N  whole streams of two channels from samples
 face lengths SEED COUNT   the lengths by rate and ceiling or span
 face differences          the inputs of docs/DIFFERENCES.md on both sides
 face short SEED           some of everything, in a few seconds
@@ -72,10 +75,12 @@ fn one(what: &str, seed: u64, count: u64) -> bool {
         "roots" => floats::roots(seed, count),
         "ring" => course::run::<rings::Ring>(seed, count),
         "tracker" => course::run::<trackers::Follower>(seed, count),
-        "scan" => course::run::<scans::Scan>(seed, count),
+        "scan" => course::run::<scans::Scan<scans::Full>>(seed, count),
         "fine" => course::run::<fines::Fine>(seed, count),
         "frames" => scans::frames::run(seed, count),
         "streams" => scans::streams::run(seed, count),
+        "pair" => course::run::<pairs::Pair>(seed, count),
+        "pair-streams" => pairs::streams::run(seed, count),
         "lengths" => lengths::run(seed, count),
         _ => usage(),
     }
@@ -91,6 +96,8 @@ fn short(seed: u64) -> bool {
         ("fine", 300_000),
         ("frames", 1_000),
         ("streams", 3),
+        ("pair", 200_000),
+        ("pair-streams", 10),
     ];
     let different = parts
         .iter()

@@ -1,7 +1,8 @@
 //! The scope paper's numbers: what is allowed, and what follows from rate, ceiling and span. Written from the paper alone.
 
 pub const LIMIT: u64 = 1 << 62;
-const SLACK: u64 = 4000;
+/// Bins that an envelope keeps beyond a window.
+pub const SLACK: u64 = 4000;
 
 pub const OUTSIDE_TABLE: u32 = 1;
 pub const WRONG_LENGTH: u32 = 2;
@@ -12,6 +13,9 @@ pub const FRAME_WAITS: u32 = 6;
 pub const NO_FULL_FRAME: u32 = 7;
 /// Request f.
 pub const INCONSISTENT_RECORD: u32 = 9;
+
+/// Request n.
+pub const NO_SUCH_CHANNEL: u32 = 11;
 
 /// Nothing stands against the call, or the number that it is to be refused with.
 pub type Judged = Result<(), u32>;
@@ -94,10 +98,15 @@ pub struct Bins {
     pub frame: u64,
     pub ceiling_guard: u64,
     pub peak_guard: u64,
+    pub slack: u64,
 }
 
 impl Bins {
     pub fn of(rate: u64, ceiling: u64) -> Bins {
+        Bins::with(SLACK, rate, ceiling)
+    }
+
+    pub fn with(slack: u64, rate: u64, ceiling: u64) -> Bins {
         let decimation = ((rate + 500) / 1000).max(1);
         let bin_rate = (rate / decimation).max(1);
         Bins {
@@ -107,6 +116,7 @@ impl Bins {
             frame: per_ms(256, bin_rate),
             ceiling_guard: per_ms(8, bin_rate),
             peak_guard: per_ms(30, bin_rate),
+            slack,
         }
     }
 
@@ -126,7 +136,7 @@ impl Bins {
     }
 
     pub fn envelope(&self) -> u64 {
-        self.window() + SLACK
+        self.window() + self.slack
     }
 
     pub fn prefix(&self) -> u64 {

@@ -13,19 +13,21 @@ built=target/examples
 mkdir -p "$built"
 
 shown=
-try() { # a program's name
-  "$built/$1" | cmp - examples/expected || { echo "examples: $1 printed something else than examples/expected" >&2; exit 1; }
+try() { # a program's name, and where it stands what it prints
+  "$built/$1" | cmp - "examples/$2" || { echo "examples: $1 printed something else than examples/$2" >&2; exit 1; }
   shown="$shown $1"
 }
 if command -v gcc >/dev/null 2>&1; then
   gcc -std=c99 -O2 -Wall -Wextra -Wpedantic -Werror -Iinclude -o "$built/c" examples/c/scan.c "$archive"
-  try c
+  try c expected
+  gcc -std=c99 -O2 -Wall -Wextra -Wpedantic -Werror -Iinclude -o "$built/pair" examples/c/pair.c "$archive"
+  try pair expected-pair
 else
-  echo "examples: the one in C is left out, gcc is not on the PATH"
+  echo "examples: those in C are left out, gcc is not on the PATH"
 fi
 command -v rustc >/dev/null 2>&1 || { echo "examples: the one in Rust and the comparison are left out, rustc is not on the PATH"; exit 0; }
 rustc --edition 2021 -O -D warnings --crate-name example -C link-arg="$archive" -o "$built/rust" examples/rust/scan.rs
-try rust
+try rust expected
 echo "examples:$shown printed what is expected"
 
 made=0

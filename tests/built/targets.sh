@@ -1,5 +1,5 @@
 #!/usr/bin/env bash
-# The archives for other processors than this machine's, as tests/built/examples.sh had them made: the example in C, the sizes, the typed calls and a damage run beside the Rust original, built by Debian's cross compiler
+# The archives for other processors than this machine's, as tests/built/examples.sh had them made: the examples in C, the sizes, the typed calls and a damage run beside the Rust original, built by Debian's cross compiler
 # and run under its qemu-user. The Rust runs here; each call of the core goes over a pipe to a program there (compare/remote). `targets.sh long` makes twenty times as many calls.
 set -eu
 cd "$(dirname "$0")/../.."
@@ -25,19 +25,21 @@ try() { # a processor
   local archive=target/archive/$1/libtrimolaveg.a cc="$1-linux-gnu-gcc -std=gnu99 -O2 -Wall -Wextra -Werror -static -Iinclude"
   $cc -o "$built/example-$1" examples/c/scan.c "$archive"
   "qemu-$1" "$built/example-$1" | cmp - examples/expected || { echo "targets: the example for $1 printed something else than examples/expected" >&2; exit 1; }
+  $cc -o "$built/pair-$1" examples/c/pair.c "$archive"
+  "qemu-$1" "$built/pair-$1" | cmp - examples/expected-pair || { echo "targets: the pair for $1 printed something else than examples/expected-pair" >&2; exit 1; }
   $cc -o "$built/sizes-$1" tests/sizes/check.c "$archive"
   "qemu-$1" "$built/sizes-$1" >"$built/log" || { cat "$built/log" >&2; exit 1; }
   $cc -o "$built/typed-$1" tests/typed/check.c "$archive"
   "qemu-$1" "$built/typed-$1" || exit 1
-  echo "targets: $1: the example printed what is expected; $(tail -n 1 "$built/log")"
+  echo "targets: $1: the examples printed what is expected; $(tail -n 1 "$built/log")"
   [ "$made" = 0 ] || return 0
   $cc -Icompare/remote -o "$built/there-$1" "$built/there.c" "$archive"
   compare "$1" differences
   compare "$1" floats 1 $((5000 * many))
   compare "$1" lengths 1 $((2000 * many))
-  for part in ring tracker scan fine; do compare "$1" "$part" 1 $((5000 * many)); done
+  for part in ring tracker scan pair fine; do compare "$1" "$part" 1 $((5000 * many)); done
   compare "$1" frames 1 $((50 * many))
-  echo "targets: $1: $((20000 * many)) calls beside the Rust, damage and all, 0 different"
+  echo "targets: $1: $((25000 * many)) calls beside the Rust, damage and all, 0 different"
 }
 
 others=

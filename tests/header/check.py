@@ -5,10 +5,14 @@ import re
 import sys
 
 HEADER = pathlib.Path("include/trimolaveg.h")
-FACE = [f"crates/{part}_face/src" for part in ("version", "floats", "ring", "scan", "scan_handover", "tracker", "fine", "fine_handover", "ring_window")]
+FACE = [f"crates/{part}_face/src" for part in ("version", "floats", "ring", "scan", "scan_handover", "scan_pair", "tracker", "fine", "fine_handover", "ring_window")]
 # Where an answer's case gets its number.
 NUMBERING = [*FACE, "crates/ring_words/src", "crates/scan_words/src", "crates/tracker_words/src", "crates/fine_words/src"]
-REFUSALS = "crates/answers/src"
+# A part may have a refusal of its own.
+REFUSALS = ["crates/answers/src", "crates/scan_pair/src"]
+
+# Where a state's layout stands if not in the crate of its name.
+LAYOUTS = {"pair_words": "scan_pair_words"}
 
 # What a parameter is called in C where its name in the face is a keyword of compilers for small processors.
 C_NAMES = {"near": "near_frame", "far": "far_window"}
@@ -88,13 +92,13 @@ def main():
     for name, (number, _) in named.items():
         if not name.endswith("_WORDS"):
             continue
-        layout = name.removeprefix("TMV_").lower()
+        layout = LAYOUTS.get(name.removeprefix("TMV_").lower(), name.removeprefix("TMV_").lower())
         words = re.search(r"pub const WORDS: usize = (\d+);", sources(f"crates/{layout}/src"))
         answers = re.search(name.lower() + r"\(\) -> u64[^{]*(?:\{[^{}]*\}[^{]*)?\{\s*" + layout + r"::WORDS as u64\s*\}", face)
         if not answers or not words or words[1] != str(number):
             wrong.append(f"{name} is {number}, and {name.lower()} does not answer it")
 
-    refusals = dict(re.findall(r"pub const (\w+): u8 = (\d+);", sources(REFUSALS)))
+    refusals = dict(re.findall(r"pub const (\w+): u8 = (\d+);", all_sources(REFUSALS)))
     for name, number in refusals.items():
         if named.get(f"TMV_{name}", (None,))[0] != int(number):
             wrong.append(f"TMV_{name} is not {number}")

@@ -8,8 +8,9 @@
 /* They are constants: a list's length, a case of #if. */
 static TMV_SCAN_KEPT(48000, 500) kept;
 static TMV_SCAN_SCRATCH(48000, 500) scratch;
+static TMV_PAIR_KEPT(48000, 500) both;
 static TMV_FINE_KEPT(4096) frames;
-#if TMV_SCAN_KEPT_BYTES(48000, 500) != 24056 || TMV_FINE_FRAME_LEN(4096) != 4096 || TMV_SCAN_LAGS_LEN(7999, 500) != 0 || TMV_SCAN_MOST_PRODUCTS(48000, 500) != 128256
+#if TMV_SCAN_KEPT_BYTES(48000, 500) != 24056 || TMV_PAIR_KEPT_BYTES(48000, 500) != 29088 || TMV_FINE_FRAME_LEN(4096) != 4096 || TMV_SCAN_LAGS_LEN(7999, 500) != 0 || TMV_SCAN_MOST_PRODUCTS(48000, 500) != 128256
 #error "the constants are not what they were"
 #endif
 
@@ -69,10 +70,11 @@ static void the_largest(void)
 static void lent(void)
 {
     struct tmv_scan scan;
+    struct tmv_pair pair;
     struct tmv_fine fine;
-    const size_t bytes = TMV_SCAN_KEPT_BYTES(48000, 500), more = TMV_SCAN_SCRATCH_BYTES(48000, 500);
-    void *first = malloc(bytes), *second = malloc(more), *third = malloc(TMV_FINE_KEPT_BYTES(4096));
-    bool good = first && second && third;
+    const size_t bytes = TMV_SCAN_KEPT_BYTES(48000, 500), more = TMV_SCAN_SCRATCH_BYTES(48000, 500), two = TMV_PAIR_KEPT_BYTES(48000, 500);
+    void *first = malloc(bytes), *second = malloc(more), *third = malloc(TMV_FINE_KEPT_BYTES(4096)), *fourth = malloc(two);
+    bool good = first && second && third && fourth;
     good = good && sizeof kept - bytes < 8 && sizeof scratch - more < 8 && sizeof frames == TMV_FINE_KEPT_BYTES(4096);
     good = good && tmvt_scan_lend(&scan, 7999, 500, first, bytes, second, more) == TMVT_OUTSIDE_TABLE;
     good = good && tmvt_scan_lend(&scan, 48000, 500, first, bytes - 1, second, more) == TMVT_WRONG_LENGTH;
@@ -81,6 +83,14 @@ static void lent(void)
     good = good && tmvt_scan_lend(&scan, 48000, 500, first, bytes, second, more) == TMVT_ACCEPTED;
     good = good && (char *)(scan.levels + scan.levels_len) == (char *)first + bytes && (char *)(scan.window + scan.window_len) == (char *)second + more;
     good = good && tmvt_scan_new(&scan, 48000, 500) == TMVT_ACCEPTED;
+    good = good && sizeof both - two < 8 && TMV_PAIR_SCRATCH_BYTES(48000, 500) == more;
+    good = good && tmvt_pair_lend(&pair, 7999, 500, fourth, two, second, more) == TMVT_OUTSIDE_TABLE;
+    good = good && tmvt_pair_lend(&pair, 48000, 500, fourth, two - 1, second, more) == TMVT_WRONG_LENGTH;
+    good = good && tmvt_pair_lend(&pair, 48000, 500, fourth, two, second, more - 1) == TMVT_WRONG_LENGTH;
+    good = good && tmvt_pair_lend(&pair, 48000, 500, (char *)fourth + 4, two, second, more) == TMVT_WRONG_LENGTH;
+    good = good && tmvt_pair_lend(&pair, 48000, 500, fourth, two, second, more) == TMVT_ACCEPTED;
+    good = good && (char *)(pair.levels[1] + pair.levels_len) == (char *)fourth + two && (char *)(pair.window + pair.window_len) == (char *)second + more;
+    good = good && tmvt_pair_new(&pair, 48000, 500) == TMVT_ACCEPTED;
     good = good && tmvt_fine_lend(&fine, 0, third, 8 * 4096) == TMVT_OUTSIDE_TABLE && tmvt_fine_lend(&fine, 4096, third, 8 * 4096 - 1) == TMVT_WRONG_LENGTH;
     good = good && tmvt_fine_lend(&fine, 4096, third, 8 * 4096) == TMVT_ACCEPTED && tmvt_fine_new(&fine, 4096) == TMVT_ACCEPTED;
     different += !good;
@@ -88,6 +98,7 @@ static void lent(void)
     free(first);
     free(second);
     free(third);
+    free(fourth);
 }
 
 int main(int count, char **words)

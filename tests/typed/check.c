@@ -63,6 +63,52 @@ static void scan(void)
     EXPECT(tmvt_scan_finished(&scan, &flag) == TMVT_BROKEN_STATE && flag);
 }
 
+static void pair(void)
+{
+    static TMV_PAIR_KEPT(RATE, CEILING) kept;
+    static TMV_PAIR_SCRATCH(RATE, CEILING) scratch;
+    static struct tmv_pair pair = TMV_PAIR_OVER(kept, scratch);
+    const float played[2] = {0.5f, NAN}, heard[3] = {0.5f, 0.25f, NAN};
+    struct tmv_frame frame = {TMVT_FRAME_FLAT, 1, 2, 3, 4};
+    struct tmv_region region = {true, 1, 2};
+    enum tmv_taking taking = TMVT_TAKING_DROPPED;
+    uint64_t number = 0, index = 0;
+    size_t taken = 7;
+    float correlation = 1;
+    bool flag = true;
+
+    EXPECT(tmv_pair_words() == TMV_PAIR_WORDS);
+    EXPECT(tmvt_pair_frames(&pair, 0, &number) == TMVT_OUTSIDE_TABLE && tmvt_pair_frames(&pair, 2, &number) == TMVT_NO_SUCH_CHANNEL && number == 0);
+    EXPECT(tmvt_pair_new(&pair, RATE, CEILING + 1) == TMVT_WRONG_LENGTH);
+    EXPECT(tmvt_pair_new(&pair, RATE, CEILING) == TMVT_ACCEPTED);
+    EXPECT(tmvt_pair_push_far(&pair, played, 1) == TMVT_ACCEPTED);
+    EXPECT(tmvt_pair_push_far(&pair, played, 2) == TMVT_NOT_FINITE);
+    EXPECT(tmvt_pair_push_near(&pair, 3, 0.5f, 0, &taking) == TMVT_NO_SUCH_CHANNEL && taking == TMVT_TAKING_DROPPED);
+    EXPECT(tmvt_pair_push_near_run(&pair, 1, heard, 3, 0, &taking, &taken) == TMVT_NOT_FINITE && taken == 7);
+    EXPECT(tmvt_pair_push_near_run(&pair, 1, heard, 2, 0, &taking, &taken) == TMVT_ACCEPTED && taking == TMVT_TAKING_TAKEN && taken == 2);
+    while (!tmvt_pair_push_near(&pair, 0, 0.5f, index, &taking) && taking == TMVT_TAKING_TAKEN)
+        index++;
+    EXPECT(taking == TMVT_TAKING_FULL && index + 1 == 48 * TMV_SCAN_LEVELS_LEN(RATE, CEILING));
+    EXPECT(tmvt_pair_push_near(&pair, 0, 0.5f, index + 1, &taking) == TMVT_FRAME_WAITS);
+    EXPECT(tmvt_pair_push_near(&pair, 1, 0.5f, 2, &taking) == TMVT_ACCEPTED && taking == TMVT_TAKING_TAKEN);
+    EXPECT(tmvt_pair_observe(&pair, 1, &frame) == TMVT_NO_FULL_FRAME && frame.kind == TMVT_FRAME_FLAT && frame.products == 4);
+    EXPECT(tmvt_pair_observe(&pair, 0, &frame) == TMVT_ACCEPTED && frame.kind == TMVT_FRAME_UNCOVERED && frame.delay == 0 && frame.products == 0);
+    EXPECT(tmvt_pair_observe(&pair, 2, &frame) == TMVT_NO_SUCH_CHANNEL);
+    EXPECT(tmvt_pair_region(&pair, 0, &region) == TMVT_ACCEPTED && !region.found && region.delay == 0);
+    EXPECT(tmvt_pair_bin_samples(&pair, &number) == TMVT_ACCEPTED && number == 48);
+    EXPECT(tmvt_pair_ceiling_samples(&pair, &number) == TMVT_ACCEPTED && number == 24000);
+    EXPECT(tmvt_pair_frames(&pair, 1, &number) == TMVT_ACCEPTED && number == 0);
+    EXPECT(tmvt_pair_correlation(&pair, 1, &correlation) == TMVT_ACCEPTED && correlation == 0);
+    EXPECT(tmvt_pair_exhausted(&pair, 1, &flag) == TMVT_ACCEPTED && !flag);
+    EXPECT(tmvt_pair_beyond_ceiling(&pair, 1, &flag) == TMVT_ACCEPTED && !flag);
+    EXPECT(!tmvt_pair_discard_near(&pair, 0) && !tmvt_pair_rearm(&pair, 1));
+    pair.state[36] = 2; /* a flag of channel 1: only its own calls and a reset see it */
+    EXPECT(tmvt_pair_finished(&pair, 1, &flag) == TMVT_BROKEN_STATE && tmvt_pair_reset(&pair) == TMVT_BROKEN_STATE);
+    EXPECT(tmvt_pair_finished(&pair, 0, &flag) == TMVT_ACCEPTED && !flag && tmvt_pair_push_far(&pair, played, 1) == TMVT_ACCEPTED);
+    pair.state[36] = 1;
+    EXPECT(tmvt_pair_finished(&pair, 1, &flag) == TMVT_ACCEPTED && flag && tmvt_pair_reset(&pair) == TMVT_ACCEPTED);
+}
+
 static void fine(void)
 {
     static TMV_FINE_KEPT(SPAN) kept;
@@ -167,6 +213,7 @@ static void ring(void)
 static void texts(void)
 {
     EXPECT(is(tmvt_refusal_text(TMVT_NOT_FINITE), "number that is not finite") && is(tmvt_refusal_text(TMVT_ACCEPTED), "accepted"));
+    EXPECT(is(tmvt_refusal_text(TMVT_NO_SUCH_CHANNEL), "no such channel"));
     EXPECT(is(tmvt_frame_text(TMVT_FRAME_CROWDED), "crowded") && is(tmvt_taking_text(TMVT_TAKING_FULL), "full"));
     EXPECT(is(tmvt_gate_text(TMVT_GATE_LATER), "later") && is(tmvt_rescan_text(TMVT_RESCAN_TAKEN), "taken"));
     EXPECT(is(tmvt_fine_taking_text(TMVT_FINE_FULL), "full") && is(tmvt_cycle_text(TMVT_CYCLE_EDGE), "edge"));
@@ -177,6 +224,7 @@ static void texts(void)
 int main(void)
 {
     scan();
+    pair();
     fine();
     tracker();
     ring();

@@ -21,6 +21,8 @@ pub enum Refusal {
     NoFullFrame,
     /// A tracker's largest contradiction run is below its current one.
     InconsistentRecord,
+    /// The channel number of a pair is not 0 or 1.
+    NoSuchChannel,
     /// One that a newer archive has and this crate does not know, by its number.
     Other(u32),
 }
@@ -36,6 +38,7 @@ impl Refusal {
             6 => Refusal::FrameWaits,
             7 => Refusal::NoFullFrame,
             9 => Refusal::InconsistentRecord,
+            11 => Refusal::NoSuchChannel,
             _ => Refusal::Other(number),
         }
     }
@@ -52,6 +55,7 @@ impl fmt::Display for Refusal {
             Refusal::FrameWaits => out.write_str("a full frame waits"),
             Refusal::NoFullFrame => out.write_str("no full frame"),
             Refusal::InconsistentRecord => out.write_str("inconsistent record"),
+            Refusal::NoSuchChannel => out.write_str("no such channel"),
             Refusal::Other(number) => write!(out, "refusal {number}"),
         }
     }

@@ -75,6 +75,28 @@ pub mod scan {
     }
 }
 
+pub mod pair {
+    face! {
+        words = tmv_pair_words() -> u64;
+        new = tmv_pair_new(state: write u64, envelope: write f32, first_lag_sums: write f64, second_lag_sums: write f64, rate: number u32, ceiling: number u32) -> u32;
+        reset = tmv_pair_reset(state: write u64, envelope: write f32, first_lag_sums: write f64, second_lag_sums: write f64) -> u32;
+        push_far = tmv_pair_push_far(state: write u64, envelope: write f32, samples: read f32) -> u32;
+        push_near = tmv_pair_push_near(state: write u64, channel: number u32, levels: write f32, sample: number f32, index: number u64) -> u32;
+        push_near_run = tmv_pair_push_near_run(state: write u64, channel: number u32, levels: write f32, samples: read f32, first: number u64, values: write u64) -> u32;
+        observe = tmv_pair_observe(state: write u64, channel: number u32, envelope: read f32, levels: read f32, window: write f32, prefix: write f64, squares: write f64, scores: write f64, lag_sums: write f64, values: write u64) -> u32;
+        rearm = tmv_pair_rearm(state: write u64, channel: number u32, lag_sums: write f64) -> u32;
+        discard_near = tmv_pair_discard_near(state: write u64, channel: number u32, lag_sums: write f64) -> u32;
+        frames = tmv_pair_frames(state: read u64, channel: number u32, values: write u64) -> u32;
+        correlation = tmv_pair_correlation(state: read u64, channel: number u32, values: write u64) -> u32;
+        region = tmv_pair_region(state: read u64, channel: number u32, values: write u64) -> u32;
+        beyond_ceiling = tmv_pair_beyond_ceiling(state: read u64, channel: number u32) -> u32;
+        finished = tmv_pair_finished(state: read u64, channel: number u32) -> u32;
+        exhausted = tmv_pair_exhausted(state: read u64, channel: number u32) -> u32;
+        bin_samples = tmv_pair_bin_samples(state: read u64, values: write u64) -> u32;
+        ceiling_samples = tmv_pair_ceiling_samples(state: read u64, values: write u64) -> u32;
+    }
+}
+
 pub mod ring {
     face! {
         words = tmv_ring_words() -> u64;

@@ -32,6 +32,7 @@ mod answers;
 mod face;
 pub mod fine;
 pub mod floats;
+pub mod pair;
 pub mod ring;
 pub mod scan;
 #[cfg(test)]
@@ -40,6 +41,7 @@ pub mod tracker;
 
 pub use answers::Refusal;
 pub use fine::{Candidate, Fine, FineTaking, Gate, Peak, Positions, Rescan};
+pub use pair::{Channel, Pair, PairMemory};
 pub use ring::{Missing, Ring};
 pub use scan::{Frame, Region, Scan, ScanMemory, Scored, Taking};
 pub use tracker::{Cycle, Tracker, Trigger, Verdict};

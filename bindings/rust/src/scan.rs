@@ -136,9 +136,44 @@ pub struct Region {
     pub correlation: f64,
 }
 
+impl Taking {
+    pub(crate) fn of(number: u32) -> Result<Taking, Refusal> {
+        match answer(number)? {
+            0 => Ok(Taking::Ignored),
+            1 => Ok(Taking::Dropped),
+            2 => Ok(Taking::Taken),
+            3 => Ok(Taking::Full),
+            case => unknown(case),
+        }
+    }
+}
+
+impl Scored {
+    pub(crate) fn of(number: u32, values: [u64; 3]) -> Result<Scored, Refusal> {
+        let frame = match answer(number)? {
+            0 => Frame::Uncovered,
+            1 => Frame::Ahead,
+            2 => Frame::Quiet,
+            3 => Frame::Flat,
+            4 => Frame::Banked { peak: f32::from_bits(values[0] as u32) },
+            5 => Frame::Weak,
+            6 => Frame::Ceiling,
+            7 => Frame::Crowded,
+            8 => Frame::Region(Region::at([values[0], values[1]])),
+            case => return unknown(case),
+        };
+        Ok(Scored { frame, products: values[2] })
+    }
+}
+
 impl Region {
-    fn of(values: [u64; 2]) -> Region {
+    fn at(values: [u64; 2]) -> Region {
         Region { delay: values[0], correlation: f64::from_bits(values[1]) }
+    }
+
+    pub(crate) fn of(number: u32, values: [u64; 2]) -> Result<Option<Region>, Refusal> {
+        let found = flag(number)?;
+        Ok(found.then(|| Region::at(values)))
     }
 }
 
@@ -180,25 +215,14 @@ impl<'m> Scan<'m> {
 
     /// One near sample with its far index. An index that is not the last one plus one drops the frame under way.
     pub fn push_near(&mut self, sample: f32, index: u64) -> Result<Taking, Refusal> {
-        match answer(face::push_near(&mut self.state, self.memory.levels, sample, index))? {
-            0 => Ok(Taking::Ignored),
-            1 => Ok(Taking::Dropped),
-            2 => Ok(Taking::Taken),
-            3 => Ok(Taking::Full),
-            case => unknown(case),
-        }
+        Taking::of(face::push_near(&mut self.state, self.memory.levels, sample, index))
     }
 
     /// A run of near samples with its first index, up to the one that completes the frame: what became of them, and how many were taken.
     pub fn push_near_run(&mut self, samples: &[f32], first: u64) -> Result<(Taking, usize), Refusal> {
         let mut values = [0; 1];
-        let number = face::push_near_run(&mut self.state, self.memory.levels, samples, first, &mut values);
-        match answer(number)? {
-            0 => Ok((Taking::Ignored, values[0] as usize)),
-            2 => Ok((Taking::Taken, values[0] as usize)),
-            3 => Ok((Taking::Full, values[0] as usize)),
-            case => unknown(case),
-        }
+        let taking = Taking::of(face::push_near_run(&mut self.state, self.memory.levels, samples, first, &mut values))?;
+        Ok((taking, values[0] as usize))
     }
 
     /// Scores the full near frame, and consumes it.
@@ -208,26 +232,13 @@ impl<'m> Scan<'m> {
         let number = face::observe(
             &mut self.state, m.envelope, m.levels, m.window, m.prefix, m.squares, m.scores, m.lag_sums, &mut values,
         );
-        let frame = match answer(number)? {
-            0 => Frame::Uncovered,
-            1 => Frame::Ahead,
-            2 => Frame::Quiet,
-            3 => Frame::Flat,
-            4 => Frame::Banked { peak: f32::from_bits(values[0] as u32) },
-            5 => Frame::Weak,
-            6 => Frame::Ceiling,
-            7 => Frame::Crowded,
-            8 => Frame::Region(Region::of([values[0], values[1]])),
-            case => return unknown(case),
-        };
-        Ok(Scored { frame, products: values[2] })
+        Scored::of(number, values)
     }
 
     /// The region, if one was found.
     pub fn region(&self) -> Result<Option<Region>, Refusal> {
         let mut values = [0; 2];
-        let found = flag(face::region(&self.state, &mut values))?;
-        Ok(found.then(|| Region::of(values)))
+        Region::of(face::region(&self.state, &mut values), values)
     }
 
     /// Samples in a bin.

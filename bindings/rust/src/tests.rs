@@ -1,12 +1,20 @@
 //! What this crate says itself, held to what the archive says.
 
+use crate::answers::done;
 use crate::face;
-use crate::{fine, ring, scan, tracker};
+use crate::{fine, pair, ring, scan, tracker, Refusal};
 
 #[test]
 fn words() {
-    let ours = [scan::WORDS, fine::WORDS, tracker::WORDS, ring::WORDS].map(|words| words as u64);
-    assert_eq!(ours, [face::scan::words(), face::fine::words(), face::tracker::words(), face::ring::words()]);
+    let ours = [scan::WORDS, pair::WORDS, fine::WORDS, tracker::WORDS, ring::WORDS].map(|words| words as u64);
+    assert_eq!(ours, [face::scan::words(), face::pair::words(), face::fine::words(), face::tracker::words(), face::ring::words()]);
+}
+
+#[test]
+fn a_pair_has_two_channels() {
+    let refused = [2, 3, 256, u32::MAX].map(|channel| done(face::pair::finished(&[], channel)));
+    assert_eq!(refused, [Err(Refusal::NoSuchChannel); 4]);
+    assert_eq!(done(face::pair::finished(&[], 1)), Err(Refusal::WrongLength));
 }
 
 #[test]

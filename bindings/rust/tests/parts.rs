@@ -1,7 +1,7 @@
 //! Each part as a host uses it, with its refusals.
 
 use trimolaveg::{fine, floats, scan};
-use trimolaveg::{Cycle, Fine, FineTaking, Frame, Gate, Missing, Peak, Positions, Refusal, Rescan, Ring, Scan, ScanMemory, Scored, Taking, Tracker, Trigger, Verdict};
+use trimolaveg::{Channel, Cycle, Fine, FineTaking, Frame, Gate, Missing, Pair, PairMemory, Peak, Positions, Refusal, Rescan, Ring, Scan, ScanMemory, Scored, Taking, Tracker, Trigger, Verdict};
 
 const RATE: u32 = 48_000;
 const CEILING: u32 = 500;
@@ -84,6 +84,48 @@ fn a_scan_refuses() {
     let full = (0..).find(|&index| scan.push_near(0.5, index).unwrap() == Taking::Full).unwrap();
     assert_eq!(scan.push_near(0.5, full + 1), Err(Refusal::FrameWaits));
     assert_eq!(Refusal::FrameWaits.to_string(), "a full frame waits");
+}
+
+#[test]
+fn a_pair_finds_two_echoes_and_keeps_its_channels_apart() {
+    use Channel::{First, Second};
+    let count = 3 * RATE as usize;
+    let (played, delays) = (noise(1, count), [DELAY, 2_400]);
+    let (mut lists, mut more) = (Lists::new(), Lists::new());
+    let first = lists.memory();
+    let second = more.memory();
+    let memory = PairMemory {
+        envelope: first.envelope, levels: [first.levels, second.levels], lag_sums: [first.lag_sums, second.lag_sums],
+        window: first.window, prefix: first.prefix, squares: first.squares, scores: first.scores,
+    };
+    let mut pair = Pair::new(memory, RATE, CEILING).unwrap();
+    for at in (0..count).step_by(480) {
+        pair.push_far(&played[at..at + 480]).unwrap();
+        for (channel, delay) in [First, Second].into_iter().zip(delays) {
+            let heard: Vec<f32> = (at..at + 480).map(|i| if i < delay { 0.0 } else { played[i - delay] * 0.5 }).collect();
+            let mut from = 0;
+            while from < 480 {
+                let (taking, taken) = pair.push_near_run(channel, &heard[from..], (at + from) as u64).unwrap();
+                from += taken;
+                if taking == Taking::Full {
+                    pair.observe(channel).unwrap();
+                }
+            }
+        }
+    }
+    let found = [First, Second].map(|channel| pair.region(channel).unwrap().expect("a region"));
+    assert_eq!(found.map(|region| region.delay), delays.map(|delay| delay as u64));
+    assert_eq!((pair.finished(First), pair.exhausted(First), pair.frames(First)), (Ok(true), Ok(false), Ok(4)));
+    // what is done to the first stays with it
+    assert_eq!((pair.rearm(First), pair.region(First), pair.frames(First)), (Ok(()), Ok(None), Ok(0)));
+    assert_eq!((pair.region(Second), pair.frames(Second)), (Ok(Some(found[1])), Ok(4)));
+    assert_eq!(pair.correlation(Second), Ok(found[1].correlation as f32));
+    assert_eq!(pair.push_near(First, 0.5, 48), Ok(Taking::Taken));
+    assert_eq!((pair.push_near(Second, f32::NAN, u64::MAX), pair.push_near(First, f32::NAN, 49)), (Ok(Taking::Ignored), Err(Refusal::NotFinite)));
+    assert_eq!((pair.discard_near(First), pair.observe(First)), (Ok(()), Err(Refusal::NoFullFrame)));
+    assert_eq!((pair.beyond_ceiling(First), pair.bin_samples(), pair.ceiling_samples()), (Ok(false), Ok(48), Ok(24_000)));
+    assert_eq!((pair.reset(), pair.region(Second)), (Ok(()), Ok(None)));
+    assert_eq!(Refusal::NoSuchChannel.to_string(), "no such channel");
 }
 
 #[test]

@@ -16,6 +16,8 @@ pub fn run() -> bool {
     scan::near_push();
     scan::near_run(16);
     scan::near_run(480);
+    scan::pair_run(16);
+    scan::pair_run(480);
     tracker::cycle();
     fine::near_run(16);
     fine::near_run(160);

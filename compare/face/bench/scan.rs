@@ -4,6 +4,7 @@ use crate::bench::times::{least, nanoseconds, told, Times};
 use crate::choices;
 use crate::coarse::CoarseScan;
 use crate::face;
+use crate::pairs::world::World as Pair;
 use crate::random::Random;
 use crate::scans::beside;
 use crate::scans::calls::observe;
@@ -189,24 +190,41 @@ pub fn near_push() {
 
 /// A run in one call, beside as many calls of the Rust, within one frame of 12,288 samples.
 pub fn near_run(count: usize) {
+    let what = format!("near run of {count} samples at 48000 Hz, a run");
+    near_runs(&what, count, || {
+        let mut w = World::new(48_000, 500);
+        let mut values = [0];
+        move |run: &[f32], first| {
+            let (state, levels) = (w.state.lent_mut(), w.levels.lent_mut());
+            face::scan::push_near_run(state, levels, run, first, &mut values)
+        }
+    });
+}
+
+/// The same to one channel of a pair.
+pub fn pair_run(count: usize) {
+    let what = format!("near run of {count} samples at 48000 Hz to a pair, a run");
+    near_runs(&what, count, || {
+        let mut w = Pair::new(48_000, 500);
+        let mut values = [0];
+        move |run: &[f32], first| {
+            let (state, levels) = (w.state.lent_mut(), w.second_levels.lent_mut());
+            face::pair::push_near_run(state, 1, levels, run, first, &mut values)
+        }
+    });
+}
+
+fn near_runs<P: FnMut(&[f32], u64) -> u32>(what: &str, count: usize, ours: impl Fn() -> P) {
     const SAMPLES: usize = 3 * 3_840;
     let mut random = Random::new(9);
     let samples: Vec<f32> = (0..SAMPLES).map(|_| choices::sample(&mut random)).collect();
     let times = Times::take(
         300,
         || {
-            let mut w = World::new(48_000, 500);
-            let mut values = [0];
+            let mut push = ours();
             nanoseconds(|| {
                 for (i, run) in samples.chunks_exact(count).enumerate() {
-                    let answer = face::scan::push_near_run(
-                        w.state.lent_mut(),
-                        w.levels.lent_mut(),
-                        black_box(run),
-                        (i * count) as u64,
-                        &mut values,
-                    );
-                    assert_eq!(answer, 18);
+                    assert_eq!(push(black_box(run), (i * count) as u64), 18);
                 }
             })
         },
@@ -219,10 +237,7 @@ pub fn near_run(count: usize) {
             })
         },
     );
-    times.row(
-        &format!("near run of {count} samples at 48000 Hz, a run"),
-        SAMPLES / count,
-    );
+    times.row(what, SAMPLES / count);
 }
 
 #[inline(never)]

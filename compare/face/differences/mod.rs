@@ -1,6 +1,7 @@
 //! The inputs of docs/DIFFERENCES.md, on both sides: each differs, and differs as the paper says.
 
 mod fines;
+mod pairs;
 mod rings;
 mod scans;
 mod told;
@@ -17,6 +18,7 @@ pub fn run() -> bool {
         rings::all(),
         trackers::all(),
         scans::all(),
+        pairs::all(),
         fines::all(),
     ];
     let all: Vec<Difference> = parts.into_iter().flatten().collect();

@@ -1,42 +1,42 @@
 //! The calls of a scan, made: what the face answers, and what the original does.
 
+use super::original::Original;
 use super::shape::Call;
-use super::world::World;
-use crate::coarse::{CoarseScan, FrameAnswer};
-use crate::face::scan as face;
+use super::world::{Seen, World};
 use crate::floats::narrowed;
 
 /// Calls the face.
 pub fn face(w: &mut World, call: &Call) -> u32 {
     let (state, values) = (w.state.lent_mut(), w.values.lent_mut());
     let (envelope, lag_sums) = (w.envelope.lent_mut(), w.lag_sums.lent_mut());
+    let face = &w.profile.calls;
     match *call {
-        Call::New { rate, ceiling } => face::new(state, envelope, lag_sums, rate, ceiling),
-        Call::Reset => face::reset(state, envelope, lag_sums),
-        Call::Rearm => face::rearm(state, lag_sums),
-        Call::DiscardNear => face::discard_near(state, lag_sums),
-        Call::PushFar => face::push_far(state, envelope, w.samples.lent()),
+        Call::New { rate, ceiling } => (face.new)(state, envelope, lag_sums, rate, ceiling),
+        Call::Reset => (face.reset)(state, envelope, lag_sums),
+        Call::Rearm => (face.rearm)(state, lag_sums),
+        Call::DiscardNear => (face.discard_near)(state, lag_sums),
+        Call::PushFar => (face.push_far)(state, envelope, w.samples.lent()),
         Call::PushNear { sample, index } => {
-            face::push_near(state, w.levels.lent_mut(), sample, index)
+            (face.push_near)(state, w.levels.lent_mut(), sample, index)
         }
         Call::Observe => observe(w),
         Call::PushNearRun { first } => {
             let (levels, samples) = (w.levels.lent_mut(), w.samples.lent());
-            face::push_near_run(state, levels, samples, first, values)
+            (face.push_near_run)(state, levels, samples, first, values)
         }
-        Call::BinSamples => face::bin_samples(state, values),
-        Call::CeilingSamples => face::ceiling_samples(state, values),
-        Call::Frames => face::frames(state, values),
-        Call::Correlation => face::correlation(state, values),
-        Call::Region => face::region(state, values),
-        Call::BeyondCeiling => face::beyond_ceiling(state),
-        Call::Finished => face::finished(state),
-        Call::Exhausted => face::exhausted(state),
+        Call::BinSamples => (face.bin_samples)(state, values),
+        Call::CeilingSamples => (face.ceiling_samples)(state, values),
+        Call::Frames => (face.frames)(state, values),
+        Call::Correlation => (face.correlation)(state, values),
+        Call::Region => (face.region)(state, values),
+        Call::BeyondCeiling => (face.beyond_ceiling)(state),
+        Call::Finished => (face.finished)(state),
+        Call::Exhausted => (face.exhausted)(state),
     }
 }
 
 pub fn observe(w: &mut World) -> u32 {
-    face::observe(
+    (w.profile.calls.observe)(
         w.state.lent_mut(),
         w.envelope.lent(),
         w.levels.lent(),
@@ -51,11 +51,16 @@ pub fn observe(w: &mut World) -> u32 {
 
 /// Does the same with the original: the number of the case, and the values that go with it.
 /// `last` is the index of the last near sample that was taken, which the original does not keep.
-pub fn original(w: &World, call: &Call, scan: &mut CoarseScan, last: &mut u64) -> (u32, Vec<u64>) {
+pub fn original<O: Original>(
+    w: &Seen,
+    call: &Call,
+    scan: &mut O,
+    last: &mut u64,
+) -> (u32, Vec<u64>) {
     let flag = |yes: bool| (16 + yes as u32, vec![]);
     match *call {
         Call::New { rate, ceiling } => {
-            *scan = CoarseScan::new(rate, ceiling as u16);
+            *scan = O::made(rate, ceiling);
             *last = 0;
         }
         Call::Reset => {
@@ -72,15 +77,15 @@ pub fn original(w: &World, call: &Call, scan: &mut CoarseScan, last: &mut u64) -
             return (near_answer(scan, last, sample, index), vec![])
         }
         Call::Observe => return scored(w, scan),
-        Call::BinSamples => return (16, vec![scan.bin_samples() as u64]),
-        Call::CeilingSamples => return (16, vec![scan.ceiling_samples() as u64]),
-        Call::Frames => return (16, vec![scan.frames() as u64]),
+        Call::BinSamples => return (16, vec![scan.bin_samples()]),
+        Call::CeilingSamples => return (16, vec![scan.ceiling_samples()]),
+        Call::Frames => return (16, vec![scan.frames()]),
         Call::PushNearRun { first } => return near_run(w, scan, last, first),
         Call::Correlation => return (16, vec![correlation(scan) as u64]),
         Call::Region => {
             return match scan.region() {
                 None => (16, vec![]),
-                Some(region) => (17, vec![region.delay as u64, region.corr.to_bits()]),
+                Some((delay, correlation)) => (17, vec![delay, correlation.to_bits()]),
             }
         }
         Call::BeyondCeiling => return flag(scan.beyond_ceiling()),
@@ -91,17 +96,17 @@ pub fn original(w: &World, call: &Call, scan: &mut CoarseScan, last: &mut u64) -
 }
 
 /// The one report that the original computes: a region's correlation is narrowed, and what `as f32` makes of a NaN's bits is left open. The scope paper fixes it.
-fn correlation(scan: &CoarseScan) -> u32 {
+fn correlation(scan: &impl Original) -> u32 {
     match scan.region() {
-        Some(region) if region.corr.is_nan() => narrowed(region.corr.to_bits()),
+        Some((_, correlation)) if correlation.is_nan() => narrowed(correlation.to_bits()),
         _ => scan.correlation().to_bits(),
     }
 }
 
 /// The original says only whether the frame is full: a finished scan ignores, and a sample after which no frame is under way was dropped.
-fn near_answer(scan: &mut CoarseScan, last: &mut u64, sample: f32, index: u64) -> u32 {
+pub fn near_answer(scan: &mut impl Original, last: &mut u64, sample: f32, index: u64) -> u32 {
     if scan.finished() {
-        assert!(!scan.push_near(sample, index));
+        assert!(!scan.push_numbered(last, sample, index));
         return 16;
     }
     let full = scan.push_numbered(last, sample, index);
@@ -113,7 +118,7 @@ fn near_answer(scan: &mut CoarseScan, last: &mut u64, sample: f32, index: u64) -
 }
 
 /// Sample by sample, with rising indices, up to the one that completes the frame.
-fn near_run(w: &World, scan: &mut CoarseScan, last: &mut u64, first: u64) -> (u32, Vec<u64>) {
+fn near_run(w: &Seen, scan: &mut impl Original, last: &mut u64, first: u64) -> (u32, Vec<u64>) {
     let samples = w.samples.lent();
     for (i, sample) in samples.iter().enumerate() {
         match near_answer(scan, last, *sample, first.wrapping_add(i as u64)) {
@@ -131,26 +136,12 @@ pub fn counted(number: u32) -> bool {
 }
 
 /// The frame scored and named. Its products are the third value; those before it that the answer does not have are as they were.
-pub fn scored(w: &World, scan: &mut CoarseScan) -> (u32, Vec<u64>) {
-    let (number, mut values) = frame_answer(scan.scored());
+pub fn scored(w: &Seen, scan: &mut impl Original) -> (u32, Vec<u64>) {
+    let (number, mut values) = scan.scored();
     let before = w.values.before();
     while values.len() < 2 {
         values.push(before[values.len()]);
     }
     values.push(scan.products(counted(number)));
     (number, values)
-}
-
-fn frame_answer(answer: FrameAnswer) -> (u32, Vec<u64>) {
-    match answer {
-        FrameAnswer::Uncovered => (16, vec![]),
-        FrameAnswer::Ahead => (17, vec![]),
-        FrameAnswer::Quiet => (18, vec![]),
-        FrameAnswer::Flat => (19, vec![]),
-        FrameAnswer::Banked(peak) => (20, vec![peak.to_bits() as u64]),
-        FrameAnswer::Weak => (21, vec![]),
-        FrameAnswer::Ceiling => (22, vec![]),
-        FrameAnswer::Crowded => (23, vec![]),
-        FrameAnswer::Region(region) => (24, vec![region.delay as u64, region.corr.to_bits()]),
-    }
 }

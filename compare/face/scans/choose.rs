@@ -1,5 +1,6 @@
 //! The next call of a scan.
 
+use super::profile::Profile;
 use super::shape::Call;
 use super::teleport;
 use super::world::World;
@@ -7,23 +8,10 @@ use crate::choices;
 use crate::lent::Lent;
 use crate::random::Random;
 
-pub const RATES: [u32; 14] = [
-    8000, 8499, 8500, 9499, 11025, 12000, 16000, 22050, 32000, 44100, 48000, 88200, 96000, 192000,
-];
-const CEILINGS: [u32; 12] = [1, 2, 3, 5, 7, 8, 9, 12, 16, 20, 31, 40];
-
-/// A new scan of some rate and ceiling. Spans are small mostly, so that many frames are scored in the time.
-pub fn world(random: &mut Random) -> World {
-    let rate = match random.below(3) {
-        0 => random.between(8000, 192_000) as u32,
-        _ => random.one_of(&RATES),
-    };
-    let ceiling = match random.below(60) {
-        0 => random.between(100, 600) as u32,
-        1..=5 => random.between(40, 100) as u32,
-        _ => random.one_of(&CEILINGS),
-    };
-    let mut w = World::new(rate, ceiling);
+/// A new scan of some rate and ceiling.
+pub fn world(random: &mut Random, profile: &'static Profile) -> World {
+    let (rate, ceiling) = (profile.setting)(random);
+    let mut w = World::of(profile, rate, ceiling);
     if !random.once_in(4) {
         teleport::far(random, &mut w);
     }
@@ -83,7 +71,7 @@ fn making(random: &mut Random, w: &World) -> Call {
     match random.below(3) {
         0 => Call::New { rate, ceiling },
         1 => Call::New {
-            rate: random.one_of(&[7_999, 8_000, 16_000, 48_000, 96_000, 192_000, 192_001]),
+            rate: random.one_of(w.profile.rates),
             ceiling,
         },
         _ => Call::New {

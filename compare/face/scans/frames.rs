@@ -4,7 +4,7 @@ use crate::coarse::CoarseScan;
 use crate::lists::Lists;
 use crate::random::Random;
 use crate::scans::calls::{counted, observe, scored};
-use crate::scans::choose::RATES;
+use crate::scans::profile::RATES;
 use crate::scans::shape::OBSERVED;
 use crate::scans::world::World;
 use crate::scans::{beside, teleport};
@@ -52,7 +52,7 @@ fn scan(random: &mut Random, totals: &mut Totals) -> Result<(), String> {
             search_anew(&mut w);
         }
         teleport::near(random, &mut w);
-        beside::bring(&w, &mut original);
+        beside::bring(&w.seen(), &mut original);
         let named = totals.frames % NAMED == 0;
         let (got, wrong) = frame(&mut w, &mut original, named);
         totals.frames += 1;
@@ -74,7 +74,7 @@ fn frame(w: &mut World, original: &mut CoarseScan, named: bool) -> (u32, Option<
     }
     let got = observe(w);
     let wrong = if named {
-        let (number, values) = scored(w, original);
+        let (number, values) = scored(&w.seen(), original);
         let told = number == got && w.values.all().starts_with(&values);
         (!told).then(|| format!("the Rust answers {number} {values:x?}"))
     } else {
@@ -83,7 +83,8 @@ fn frame(w: &mut World, original: &mut CoarseScan, named: bool) -> (u32, Option<
         let told = w.values.all()[2];
         (told != products).then(|| format!("{told} products, the Rust {products}"))
     };
-    let wrong = wrong.or_else(|| beside::differs(w, original, w.state.before()[24], &OBSERVED));
+    let seen = w.seen();
+    let wrong = wrong.or_else(|| beside::differs(&seen, original, seen.before[24], &OBSERVED));
     (got, wrong)
 }
 

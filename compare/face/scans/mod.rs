@@ -3,10 +3,13 @@
 pub mod beside;
 pub mod calls;
 mod cases;
-mod choose;
+pub mod choose;
 pub mod frames;
-mod referee;
+pub mod original;
+pub mod profile;
+pub mod referee;
 pub mod shape;
+pub mod sound;
 pub mod streams;
 pub mod teleport;
 pub mod world;
@@ -16,11 +19,30 @@ use crate::course::{Case, Walker};
 use crate::random::Random;
 use crate::rules::{Bins, Judged};
 use crate::trial::{Subject, Tried};
+use original::Original;
+use profile::{Profile, FULL};
 use shape::{Call, List};
 use world::World;
 
-pub struct Scan {
-    original: CoarseScan,
+/// A profile beside its original.
+pub(crate) trait Kind {
+    type Original: Original;
+    const WHAT: &'static str;
+    const PROFILE: &'static Profile;
+    const CASES: &'static [Case<Call>];
+}
+
+pub(crate) struct Full;
+
+impl Kind for Full {
+    type Original = CoarseScan;
+    const WHAT: &'static str = "scan";
+    const PROFILE: &'static Profile = &FULL;
+    const CASES: &'static [Case<Call>] = cases::CASES;
+}
+
+pub(crate) struct Scan<K: Kind> {
+    original: K::Original,
     /// The rate and ceiling that the original was made for.
     setting: (u64, u64),
     /// Whether the original is no longer in the state of the words and the buffers.
@@ -31,7 +53,7 @@ pub struct Scan {
     last: u64,
 }
 
-impl Subject for Scan {
+impl<K: Kind> Subject for Scan<K> {
     type World = World;
     const DUE: fn(&World, &Call) -> Judged = referee::due;
     const FACE: fn(&mut World, &Call) -> u32 = calls::face;
@@ -40,10 +62,10 @@ impl Subject for Scan {
     fn bring(&mut self, w: &World) {
         let setting = (w.word(0), w.word(1));
         if setting != self.setting {
-            self.original = beside::original(w);
+            self.original = beside::made_as(&w.seen());
             self.setting = setting;
         } else if self.behind {
-            beside::bring(w, &mut self.original);
+            beside::bring(&w.seen(), &mut self.original);
         }
         self.behind = false;
         self.last = w.word(24);
@@ -55,11 +77,11 @@ impl Subject for Scan {
             self.setting = (rate as u64, ceiling as u64);
             self.behind = true;
         }
-        calls::original(w, call, &mut self.original, &mut self.last)
+        calls::original(&w.seen(), call, &mut self.original, &mut self.last)
     }
 
     fn stored(&self, w: &World, call: &Call) -> Vec<u64> {
-        let mut before = w.state.before().to_vec();
+        let mut before = w.seen().before;
         if let Call::New { rate, ceiling } = *call {
             before[0] = rate as u64;
             before[1] = ceiling as u64;
@@ -69,21 +91,22 @@ impl Subject for Scan {
     }
 
     fn holds(&self, w: &World, list: List) -> bool {
-        beside::holds(w, &self.original, list)
+        beside::holds(&w.seen(), &self.original, list)
     }
 }
 
-impl Walker for Scan {
-    const WHAT: &'static str = "scan";
+impl<K: Kind> Walker for Scan<K> {
+    const WHAT: &'static str = K::WHAT;
     const EPISODE: u64 = 3000;
     const DAMAGE: u64 = 4;
-    const CASES: &'static [Case<Call>] = cases::CASES;
+    const CASES: &'static [Case<Call>] = K::CASES;
 
-    fn new() -> (Scan, World) {
-        let world = World::new(8000, 1);
+    fn new() -> (Scan<K>, World) {
+        let (rate, ceiling) = K::PROFILE.least;
+        let world = World::of(K::PROFILE, rate, ceiling);
         let scan = Scan {
-            original: beside::original(&world),
-            setting: (8000, 1),
+            original: beside::made_as(&world.seen()),
+            setting: (rate as u64, ceiling as u64),
             behind: false,
             index: 0,
             last: 0,
@@ -93,7 +116,7 @@ impl Walker for Scan {
 
     fn begin(&mut self, random: &mut Random) -> World {
         self.behind = true;
-        choose::world(random)
+        choose::world(random, K::PROFILE)
     }
 
     fn choose(&mut self, random: &mut Random, w: &mut World) -> Call {

@@ -2,23 +2,28 @@
 //! calls only their shape.
 
 use super::shape::{Call, List};
-use super::world::{World, WORDS};
+use super::world::{Seen, World, WORDS};
 use crate::rules::*;
 use crate::shape::Call as _;
 
 pub fn due(w: &World, call: &Call) -> Judged {
-    let state = w.state.lent();
-    let (shape, state_fits) = (call.shape(), state.len() == WORDS);
+    due_of(&w.seen(), call)
+}
+
+pub fn due_of(w: &Seen, call: &Call) -> Judged {
+    let allowed = w.profile.allowed;
+    let shape = call.shape();
     if let Call::New { rate, ceiling } = *call {
         let (rate, ceiling) = (rate as u64, ceiling as u64);
-        judged_making(allowed(rate, ceiling), state_fits)?;
-        return buffers_fit(w, shape.lent, &Bins::of(rate, ceiling));
+        judged_making(allowed(rate, ceiling), w.state_fits)?;
+        let bins = Bins::with(w.profile.slack, rate, ceiling);
+        return buffers_fit(w, shape.lent, &bins);
     }
     let values_fit = shape.values_fit(w.values.lent().len());
-    judged(state_fits, || allowed(state[0], state[1]), values_fit)?;
-    let bins = Bins::of(state[0], state[1]);
+    judged(w.state_fits, || allowed(w.word(0), w.word(1)), values_fit)?;
+    let bins = w.bins();
     buffers_fit(w, shape.lent, &bins)?;
-    require(keeps_rules(state, &bins), BROKEN_STATE)?;
+    require(keeps_rules(&w.words, &bins), BROKEN_STATE)?;
     match *call {
         Call::PushFar => far_push(w),
         Call::PushNear { sample, index } => near_push(w, &bins, sample, index),
@@ -28,11 +33,7 @@ pub fn due(w: &World, call: &Call) -> Judged {
     }
 }
 
-fn allowed(rate: u64, ceiling: u64) -> bool {
-    allowed_rate(rate) && allowed_ceiling(ceiling)
-}
-
-fn buffers_fit(w: &World, lent: &[List], bins: &Bins) -> Judged {
+pub fn buffers_fit(w: &Seen, lent: &[List], bins: &Bins) -> Judged {
     let fits = |list: &List| {
         let (len, due) = match list {
             List::State | List::Values | List::Samples => return true,
@@ -49,7 +50,7 @@ fn buffers_fit(w: &World, lent: &[List], bins: &Bins) -> Judged {
     require(lent.iter().all(fits), WRONG_LENGTH)
 }
 
-fn keeps_rules(state: &[u64], bins: &Bins) -> bool {
+pub fn keeps_rules(state: &[u64; WORDS], bins: &Bins) -> bool {
     let cases = state[16..19].iter().all(|word| is_half(*word))
         && [19, 22, 23].iter().all(|at| is_flag(state[*at]));
     let finished = state[19] == 1 || state[23] == 1;
@@ -73,7 +74,7 @@ fn keeps_rules(state: &[u64], bins: &Bins) -> bool {
         && (!finished || len == 0 && near_count == 0)
 }
 
-fn far_push(w: &World) -> Judged {
+fn far_push(w: &Seen) -> Judged {
     let samples = w.samples.lent();
     let accepted = w.word(11) as u128 + samples.len() as u128;
     require(accepted <= LIMIT as u128, TOO_LARGE)?;
@@ -81,7 +82,7 @@ fn far_push(w: &World) -> Judged {
 }
 
 /// A finished scan ignores any sample, and a sample is dropped unread where no frame goes on with its index and none begins there.
-fn near_push(w: &World, bins: &Bins, sample: f32, index: u64) -> Judged {
+fn near_push(w: &Seen, bins: &Bins, sample: f32, index: u64) -> Judged {
     if w.finished() {
         return Ok(());
     }
@@ -94,7 +95,7 @@ fn near_push(w: &World, bins: &Bins, sample: f32, index: u64) -> Judged {
 }
 
 /// The part that would be taken is walked sample by sample, and judged only then: its last index, and each sample of it that would go into the frame.
-fn near_run(w: &World, bins: &Bins, first: u64) -> Judged {
+fn near_run(w: &Seen, bins: &Bins, first: u64) -> Judged {
     let samples = w.samples.lent();
     if samples.is_empty() || w.finished() {
         return Ok(());
@@ -119,13 +120,13 @@ fn near_run(w: &World, bins: &Bins, first: u64) -> Judged {
     require(finite, NOT_FINITE)
 }
 
-fn scoring(w: &World, bins: &Bins) -> Judged {
+fn scoring(w: &Seen, bins: &Bins) -> Judged {
     require(w.word(12) == bins.frame, NO_FULL_FRAME)?;
     require(readable(w, bins), NOT_FINITE)
 }
 
 /// A frame that is neither uncovered nor ahead reads its near levels, the written bins of its window and all lag sums.
-fn readable(w: &World, bins: &Bins) -> bool {
+fn readable(w: &Seen, bins: &Bins) -> bool {
     let (next, first) = (w.word(8), w.word(15));
     let oldest = next.saturating_sub(bins.envelope());
     let uncovered = first < bins.span || first - bins.span < oldest;

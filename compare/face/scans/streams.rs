@@ -1,6 +1,5 @@
 //! Whole streams from samples: far pushes, a delayed near side sample by sample, frames as they fill, rearms.
 
-use crate::choices;
 use crate::coarse::CoarseScan;
 use crate::face::scan as face;
 use crate::lent::Lent;
@@ -9,6 +8,7 @@ use crate::random::Random;
 use crate::scans::beside;
 use crate::scans::calls::{counted, observe};
 use crate::scans::shape::{List, OBSERVED};
+use crate::scans::sound::Sound;
 use crate::scans::world::World;
 
 pub fn run(seed: u64, scans: u64) -> bool {
@@ -41,10 +41,9 @@ struct Stream {
     /// The index of the last near sample that was taken.
     last: u64,
     rate: u64,
-    /// The far samples so far, and by how many the near side follows them.
-    played: Vec<f32>,
+    /// What is played, and by how many samples the near side follows it.
+    sound: Sound,
     delay: u64,
-    loud: bool,
 }
 
 impl Stream {
@@ -57,18 +56,17 @@ impl Stream {
             world,
             last: 0,
             rate: rate as u64,
-            played: Vec::new(),
+            sound: Sound::new(rate as u64),
             delay: random.below(ceiling as u64 * rate as u64 / 1000 + 1),
-            loud: false,
         }
     }
 
     /// Three seconds.
     fn play(mut self, random: &mut Random, totals: &mut Totals) -> Result<(), String> {
         let mut index = random.below(1000);
-        while (self.played.len() as u64) < 3 * self.rate {
+        while (self.sound.played.len() as u64) < 3 * self.rate {
             self.far(random, totals)?;
-            while index < self.played.len() as u64 {
+            while index < self.sound.played.len() as u64 {
                 self.near(index, totals)?;
                 index += 1;
                 if random.once_in(20_000) {
@@ -99,24 +97,17 @@ impl Stream {
         if got != due {
             return Err(format!("{call} answered {got}, not {due}"));
         }
-        let wrong = beside::differs(&self.world, &self.original, self.last, lists);
+        let wrong = beside::differs(&self.world.seen(), &self.original, self.last, lists);
         wrong.map_or(Ok(()), |what| Err(format!("{call}: {what}")))
     }
 
-    /// Noise in loud and soft stretches.
     fn far(&mut self, random: &mut Random, totals: &mut Totals) -> Result<(), String> {
-        let samples: Vec<f32> = (0..random.between(0, 3000))
-            .map(|_| {
-                if random.once_in(self.rate / 50) {
-                    self.loud = !self.loud;
-                }
-                choices::sample(random) * if self.loud { 1.0 } else { 0.05 }
-            })
-            .collect();
+        let count = random.between(0, 3000);
+        let samples = self.sound.next(random, count);
         self.world.samples = Lent::of(&samples);
         self.keep(&[List::State, List::Envelope, List::Samples]);
         self.original.push_far(&samples);
-        self.played.extend(&samples);
+        self.sound.played.extend(&samples);
         let w = &mut self.world;
         let answer = face::push_far(w.state.lent_mut(), w.envelope.lent_mut(), w.samples.lent());
         totals.pushes += 1;
@@ -124,8 +115,7 @@ impl Stream {
     }
 
     fn near(&mut self, index: u64, totals: &mut Totals) -> Result<(), String> {
-        let heard = self.played.get((index - self.delay.min(index)) as usize);
-        let sample = heard.copied().unwrap_or(0.0) * 0.7;
+        let sample = self.sound.heard(index, self.delay);
         let finished = self.original.finished();
         let full = self.original.push_numbered(&mut self.last, sample, index);
         let w = &mut self.world;

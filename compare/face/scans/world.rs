@@ -1,5 +1,6 @@
 //! A scan as a host holds it: 25 words, the values, the seven buffers and the far samples.
 
+use super::profile::{Profile, FULL};
 use super::shape::{Call, List};
 use crate::lent::Lent;
 use crate::lists::lists;
@@ -8,6 +9,7 @@ use crate::rules::Bins;
 pub const WORDS: usize = 25;
 
 pub struct World {
+    pub profile: &'static Profile,
     pub state: Lent<u64>,
     pub values: Lent<u64>,
     pub envelope: Lent<f32>,
@@ -24,10 +26,47 @@ lists!(World, Call, List:
     State state, Values values, Envelope envelope, Levels levels, Window window,
     Prefix prefix, Squares squares, Scores scores, LagSums lag_sums, Samples samples);
 
+/// What a call on one scan has to do with. A host may also hold it otherwise than as a `World`.
+pub struct Seen<'w> {
+    pub profile: &'static Profile,
+    /// Whether the state is lent with the length that it should have.
+    pub state_fits: bool,
+    pub words: [u64; WORDS],
+    /// The words when the state was last kept.
+    pub before: [u64; WORDS],
+    pub values: &'w Lent<u64>,
+    pub envelope: &'w Lent<f32>,
+    pub levels: &'w Lent<f32>,
+    pub window: &'w Lent<f32>,
+    pub prefix: &'w Lent<f64>,
+    pub squares: &'w Lent<f64>,
+    pub scores: &'w Lent<f64>,
+    pub lag_sums: &'w Lent<f64>,
+    pub samples: &'w Lent<f32>,
+}
+
+impl Seen<'_> {
+    pub fn word(&self, at: usize) -> u64 {
+        self.words[at]
+    }
+
+    pub fn bins(&self) -> Bins {
+        Bins::with(self.profile.slack, self.word(0), self.word(1))
+    }
+
+    pub fn finished(&self) -> bool {
+        self.word(19) == 1 || self.word(23) == 1
+    }
+}
+
 impl World {
     /// A new scan, as the scope paper has it.
     pub fn new(rate: u32, ceiling: u32) -> World {
-        let bins = Bins::of(rate as u64, ceiling as u64);
+        World::of(&FULL, rate, ceiling)
+    }
+
+    pub fn of(profile: &'static Profile, rate: u32, ceiling: u32) -> World {
+        let bins = Bins::with(profile.slack, rate as u64, ceiling as u64);
         let mut state = [0; WORDS];
         state[0] = rate as u64;
         state[1] = ceiling as u64;
@@ -35,6 +74,7 @@ impl World {
         let levels = |len: u64| Lent::new(len as usize, 0.0_f32);
         let sums = |len: u64| Lent::new(len as usize, 0.0_f64);
         World {
+            profile,
             state: Lent::of(&state),
             values: Lent::new(3, 0),
             envelope: levels(bins.envelope()),
@@ -48,6 +88,25 @@ impl World {
         }
     }
 
+    pub fn seen(&self) -> Seen<'_> {
+        let words = |all: &[u64]| all.try_into().expect("25 words");
+        Seen {
+            profile: self.profile,
+            state_fits: self.state.lent().len() == WORDS,
+            words: words(self.state.all()),
+            before: words(self.state.before()),
+            values: &self.values,
+            envelope: &self.envelope,
+            levels: &self.levels,
+            window: &self.window,
+            prefix: &self.prefix,
+            squares: &self.squares,
+            scores: &self.scores,
+            lag_sums: &self.lag_sums,
+            samples: &self.samples,
+        }
+    }
+
     pub fn word(&self, at: usize) -> u64 {
         self.state.all()[at]
     }
@@ -57,7 +116,7 @@ impl World {
     }
 
     pub fn bins(&self) -> Bins {
-        Bins::of(self.word(0), self.word(1))
+        Bins::with(self.profile.slack, self.word(0), self.word(1))
     }
 
     pub fn finished(&self) -> bool {

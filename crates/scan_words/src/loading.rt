@@ -12,7 +12,7 @@ ghost use lib.ListN.{length};
 ghost use Rattle.scan_words.specs.Answers.{levelPattern};
 ghost use Rattle.scan_words.specs.Layout.{scanWords, loadedGeometry, loadedFar, loadedNear, loadedFound, areCases, loadedBanked, loadedVerdict, loaded};
 
-fn load_geometry(state: &[u64]) -> Geometry
+pub fn load_geometry(state: &[u64]) -> Geometry
     requires { ⌜ length (now state) ≡ scanWords ⌝ }
     ensures { λ r. ⌜ r ≡ loadedGeometry (now (state .entry)) ⌝ }
 {
@@ -28,7 +28,7 @@ fn load_geometry(state: &[u64]) -> Geometry
     }
 }
 
-fn load_far(state: &[u64]) -> Far
+pub fn load_far(state: &[u64]) -> Far
     requires { ⌜ length (now state) ≡ scanWords ⌝ }
     ensures { λ r. ⌜ r ≡ loadedFar (now (state .entry)) ⌝ }
 {
@@ -40,7 +40,7 @@ fn load_far(state: &[u64]) -> Far
     }
 }
 
-fn load_near(state: &[u64]) -> Near
+pub fn load_near(state: &[u64]) -> Near
     requires { ⌜ length (now state) ≡ scanWords ⌝ }
     ensures { λ r. ⌜ r ≡ loadedNear (now (state .entry)) ⌝ }
 {
@@ -86,7 +86,7 @@ fn load_banked(state: &[u64]) -> u32
     4
 }
 
-fn load_verdict(state: &[u64]) -> Verdict
+pub fn load_verdict(state: &[u64]) -> Verdict
     requires { ⌜ length (now state) ≡ scanWords ⌝ }
     ensures { λ r. ⌜ r ≡ loadedVerdict (now (state .entry)) ⌝ }
 {

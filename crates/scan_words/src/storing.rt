@@ -9,7 +9,7 @@ ghost use mathlib.Core.Path.{_≡_};
 ghost use lib.ListN.{length};
 ghost use Rattle.scan_words.specs.Layout.{scanWords, storedGeometry, storedFar, storedNear, storedFound, storedVerdict, stored, settled};
 
-fn store_geometry(state: &mut [u64], g: Geometry)
+pub fn store_geometry(state: &mut [u64], g: Geometry)
     requires { ⌜ length (now state) ≡ scanWords ⌝ }
     ensures { λ _. ⌜ now (state .exit) ≡ storedGeometry (now (state .entry)) g ⌝ }
 {
@@ -23,7 +23,7 @@ fn store_geometry(state: &mut [u64], g: Geometry)
     state[7] = g.peak_guard;
 }
 
-fn store_far(state: &mut [u64], far: Far)
+pub fn store_far(state: &mut [u64], far: Far)
     requires { ⌜ length (now state) ≡ scanWords ⌝ }
     ensures { λ _. ⌜ now (state .exit) ≡ storedFar (now (state .entry)) far ⌝ }
 {
@@ -34,7 +34,7 @@ fn store_far(state: &mut [u64], far: Far)
     state[11] = far.accepted;
 }
 
-fn store_near(state: &mut [u64], near: Near)
+pub fn store_near(state: &mut [u64], near: Near)
     requires { ⌜ length (now state) ≡ scanWords ⌝ }
     ensures { λ _. ⌜ now (state .exit) ≡ storedNear (now (state .entry)) near ⌝ }
 {
@@ -63,7 +63,7 @@ fn store_found(state: &mut [u64], found: Found)
     }
 }
 
-fn store_verdict(state: &mut [u64], v: Verdict)
+pub fn store_verdict(state: &mut [u64], v: Verdict)
     requires { ⌜ length (now state) ≡ scanWords ⌝ }
     ensures { λ _. ⌜ now (state .exit) ≡ storedVerdict (now (state .entry)) v ⌝ }
 {
