@@ -294,8 +294,8 @@ uint32_t tmv_scan_exhausted(const uint64_t *state, size_t state_len);
  * outside the table, a panel's also does so for one that the profile does not allow, reports included. The state does not say who made it: a panel's call takes a scan's state, if the profile allows its settings.
  *
  * Fed the same calls from the making on, a panel answers as a scan does up to the first frame whose window holds a bin that the scan has kept and the panel has overwritten. At that frame the panel
- * answers TMV_FRAME_UNCOVERED. From there on until the next rearm or reset the two may differ. A frame that is scored before the far side has 512 bins, half a
- * second, behind its end is not such a frame. */
+ * answers TMV_FRAME_UNCOVERED. From there on until the next rearm or reset the two may differ. A frame is not such a frame if, when it is scored, the far
+ * side has written at most 512 bins, half a second, past the frame's end. */
 
 /* Returns how long the envelope must be, and 0 where the profile does not allow rate or ceiling. For the other lists ask tmv_scan_levels_len and the like. */
 uint64_t tmv_panel_envelope_len(uint32_t rate, uint32_t ceiling);
