@@ -108,7 +108,8 @@ impl Stream {
                 let bins = random.one_of(&[0, 0, 300, 500, 700, 1500, 3000, 4500]);
                 self.late = (bins + random.below(200)) * self.rate / 1000;
             }
-            self.far(random, totals)?;
+            let count = random.between(1, 4000);
+            self.far(random, count, totals)?;
             self.listen(random, totals)?;
             self.look_after(random, totals)?;
             if random.once_in(1000) {
@@ -186,8 +187,7 @@ impl Stream {
     }
 
     /// Now and then one of the samples is no number first, and none is taken.
-    fn far(&mut self, random: &mut Random, totals: &mut Totals) -> Result<(), String> {
-        let count = random.between(1, 4000);
+    fn far(&mut self, random: &mut Random, count: u64, totals: &mut Totals) -> Result<(), String> {
         let samples = self.sound.next(random, count);
         if random.once_in(40) {
             let mut spoilt = samples.clone();
@@ -220,6 +220,9 @@ impl Stream {
                 _ => self.panel.1.values.all()[0],
             };
             if answers.0 == 19 || answers.1 == 19 {
+                if random.once_in(8) {
+                    self.linger(random, totals)?;
+                }
                 self.make(random, Call::Observe, totals)?;
             }
             if random.once_in(200) {
@@ -228,6 +231,18 @@ impl Stream {
             }
         }
         Ok(())
+    }
+
+    /// Lets a full frame wait until the far side is about as far past its end as the panel's history reaches, to the bin.
+    fn linger(&mut self, random: &mut Random, totals: &mut Totals) -> Result<(), String> {
+        let w = &self.panel.1;
+        let bins = w.bins();
+        let written = w.word(15) + bins.frame + bins.slack - 1 + random.below(4);
+        let count = (written * bins.decimation).saturating_sub(w.word(11));
+        match count {
+            0 => Ok(()),
+            _ => self.far(random, count, totals),
+        }
     }
 
     /// Asks something, rearms where the panel is finished, and now and then rearms or discards in the middle.
