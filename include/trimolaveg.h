@@ -71,7 +71,7 @@ uint32_t tmv_version(void);
 
 /* ---- refusals */
 
-#define TMV_OUTSIDE_TABLE 1 /* rate, ceiling or span outside the table: 8,000 to 192,000 Hz, 1 to 4,000 ms, 1 to 32,768 samples */
+#define TMV_OUTSIDE_TABLE 1 /* rate, ceiling or span outside the table: 8,000 to 192,000 Hz, 1 to 4,000 ms, 1 to 32,768 samples; of a panel 8,000 or 16,000 Hz, 8 to 320 ms */
 #define TMV_WRONG_LENGTH 2  /* a list does not have the length named here */
 #define TMV_BROKEN_STATE 3  /* the words break a rule of their state */
 #define TMV_NOT_FINITE 4    /* a sample, correlation, level or lag sum that would be read is NaN or infinite */
@@ -89,7 +89,7 @@ uint32_t tmv_version(void);
 #define TMV_NO 16 /* from a report that is a flag */
 #define TMV_YES 17
 
-/* from tmv_scan_push_near, and all but TMV_TAKING_DROPPED from tmv_scan_push_near_run; a pair's calls give the answers of the scan's calls */
+/* from tmv_scan_push_near, and all but TMV_TAKING_DROPPED from tmv_scan_push_near_run; calls of a pair or a panel give the answers of the scan's calls */
 #define TMV_TAKING_IGNORED 16 /* scan::Taking::Ignored: the scan is finished */
 #define TMV_TAKING_DROPPED 17 /* scan::Taking::Dropped: no frame is under way, and none begins at this index */
 #define TMV_TAKING_TAKEN 18   /* scan::Taking::Taken */
@@ -286,6 +286,37 @@ uint32_t tmv_scan_region(const uint64_t *state, size_t state_len, uint64_t *valu
 uint32_t tmv_scan_beyond_ceiling(const uint64_t *state, size_t state_len);
 uint32_t tmv_scan_finished(const uint64_t *state, size_t state_len);
 uint32_t tmv_scan_exhausted(const uint64_t *state, size_t state_len);
+
+/* ---- the panel: a narrow profile of the coarse scan, which takes at most TMV_PANEL_BYTES_MOST bytes, all in all, of trimolaveg_sizes.h: below 24 KiB. Rates are 8,000 and 16,000 Hz, ceilings 8 to 320 ms, and the
+ * envelope keeps 512 bins more than a window, where a scan's keeps 4,000.
+ *
+ * State, rules, answers and refusals are those of the tmv_scan_ calls of the same name, and so are the lists and their lengths, but for the envelope's. Where a scan's call refuses with 1 for a rate or ceiling
+ * outside the table, a panel's also does so for one that the profile does not allow, reports included. The state does not say who made it: a panel's call takes a scan's state, if the profile allows its settings.
+ *
+ * Fed the same calls from the making on, a panel answers as a scan does up to the first frame whose window holds a bin that the scan has kept and the panel has overwritten. At that frame the panel
+ * answers TMV_FRAME_UNCOVERED. From there on until the next rearm or reset the two may differ. A frame is not such a frame if, when it is scored, the far
+ * side has written at most 512 bins, half a second, past the frame's end. */
+
+/* Returns how long the envelope must be, and 0 where the profile does not allow rate or ceiling. For the other lists ask tmv_scan_levels_len and the like. */
+uint64_t tmv_panel_envelope_len(uint32_t rate, uint32_t ceiling);
+
+uint32_t tmv_panel_new(uint64_t *state, size_t state_len, float *envelope, size_t envelope_len, double *lag_sums, size_t lag_sums_len, uint32_t rate, uint32_t ceiling);
+uint32_t tmv_panel_reset(uint64_t *state, size_t state_len, float *envelope, size_t envelope_len, double *lag_sums, size_t lag_sums_len);
+uint32_t tmv_panel_rearm(uint64_t *state, size_t state_len, double *lag_sums, size_t lag_sums_len);
+uint32_t tmv_panel_discard_near(uint64_t *state, size_t state_len, double *lag_sums, size_t lag_sums_len);
+uint32_t tmv_panel_push_far(uint64_t *state, size_t state_len, float *envelope, size_t envelope_len, const float *samples, size_t samples_len);
+uint32_t tmv_panel_push_near(uint64_t *state, size_t state_len, float *levels, size_t levels_len, float sample, uint64_t index);
+uint32_t tmv_panel_push_near_run(uint64_t *state, size_t state_len, float *levels, size_t levels_len, const float *samples, size_t samples_len, uint64_t first, uint64_t *values, size_t values_len);
+uint32_t tmv_panel_observe(uint64_t *state, size_t state_len, const float *envelope, size_t envelope_len, const float *levels, size_t levels_len, float *window, size_t window_len, double *prefix, size_t prefix_len, double *squares, size_t squares_len, double *scores, size_t scores_len, double *lag_sums, size_t lag_sums_len, uint64_t *values, size_t values_len);
+
+uint32_t tmv_panel_bin_samples(const uint64_t *state, size_t state_len, uint64_t *values, size_t values_len);
+uint32_t tmv_panel_ceiling_samples(const uint64_t *state, size_t state_len, uint64_t *values, size_t values_len);
+uint32_t tmv_panel_frames(const uint64_t *state, size_t state_len, uint64_t *values, size_t values_len);
+uint32_t tmv_panel_correlation(const uint64_t *state, size_t state_len, uint64_t *values, size_t values_len);
+uint32_t tmv_panel_region(const uint64_t *state, size_t state_len, uint64_t *values, size_t values_len);
+uint32_t tmv_panel_beyond_ceiling(const uint64_t *state, size_t state_len);
+uint32_t tmv_panel_finished(const uint64_t *state, size_t state_len);
+uint32_t tmv_panel_exhausted(const uint64_t *state, size_t state_len);
 
 /* ---- the pair: two microphones, one loudspeaker. One far history serves two near scans, channel 0 and channel 1, each with its own near frame, sums and verdict.
  *

@@ -48,6 +48,21 @@
 /* The most products that the lag sums of one frame can take: tmv_scan_observe tells how many it was (docs/WORK.md has this at the usual settings). */
 #define TMV_SCAN_MOST_PRODUCTS(rate, ceiling) (TMV_SCAN_LAGS_LEN(rate, ceiling) * TMV_SCAN_LEVELS_LEN(rate, ceiling))
 
+/* ---- the panel, a narrow profile of the scan. Only the envelope has another length. The state has TMV_SCAN_WORDS words. */
+
+#define TMV_PANEL_ALLOWED(rate, ceiling) (((rate) == 8000UL || (rate) == 16000UL) && (ceiling) >= 8UL && (ceiling) <= 320UL)
+#define TMV_PANEL_LEN(rate, ceiling, len) (TMV_PANEL_ALLOWED(rate, ceiling) ? (len) : 0UL)
+#define TMV_PANEL_SLACK 512UL
+
+#define TMV_PANEL_ENVELOPE_LEN(rate, ceiling) TMV_PANEL_LEN(rate, ceiling, TMV_SCAN_FRAME(rate) + TMV_SCAN_SPAN(rate, ceiling) + TMV_PANEL_SLACK)
+#define TMV_PANEL_ENVELOPE_MOST TMV_PANEL_ENVELOPE_LEN(16000UL, 320UL)
+
+#define TMV_PANEL_KEPT_BYTES(rate, ceiling) TMV_PANEL_LEN(rate, ceiling, 8UL * TMV_SCAN_LAGS_LEN(rate, ceiling) + 4UL * TMV_PANEL_ENVELOPE_LEN(rate, ceiling) + 4UL * TMV_SCAN_LEVELS_LEN(rate, ceiling))
+#define TMV_PANEL_SCRATCH_BYTES(rate, ceiling) TMV_PANEL_LEN(rate, ceiling, TMV_SCAN_SCRATCH_BYTES(rate, ceiling))
+
+/* State, kept lists and scratch at the largest setting. */
+#define TMV_PANEL_BYTES_MOST (8UL * TMV_SCAN_WORDS + TMV_PANEL_KEPT_BYTES(16000UL, 320UL) + TMV_PANEL_SCRATCH_BYTES(16000UL, 320UL))
+
 /* ---- the pair: one envelope, and levels and lag sums for each of two channels. The state takes another 8 * TMV_PAIR_WORDS bytes. Scratch is one scan's. */
 
 #define TMV_PAIR_KEPT_BYTES(rate, ceiling) (16UL * TMV_SCAN_LAGS_LEN(rate, ceiling) + 4UL * TMV_SCAN_ENVELOPE_LEN(rate, ceiling) + 8UL * TMV_SCAN_LEVELS_LEN(rate, ceiling))

@@ -241,24 +241,17 @@ static inline bool tmvt_serves(const void *memory, size_t bytes, size_t least)
     return bytes >= least && (uintptr_t)memory % sizeof(double) == 0;
 }
 
-/* Does the same for settings that are known only at run time. The memory must have TMV_SCAN_KEPT_BYTES and TMV_SCAN_SCRATCH_BYTES, or more, must be aligned for a double, and must never be used as anything else.
- * Refuses with 1 if rate or ceiling is outside the table, and with 2 if the memory is too small or not so aligned. */
-TMV_CALL tmvt_scan_lend(struct tmv_scan *scan, uint32_t rate, uint32_t ceiling, void *kept, size_t kept_bytes, void *scratch, size_t scratch_bytes)
+/* Parts memory that serves into the lists of a scan. */
+static inline void tmvt_scan_part(struct tmv_scan *scan, uint32_t rate, uint32_t ceiling, size_t envelope, void *kept, void *scratch)
 {
     const size_t lags = (size_t)tmv_scan_lags_len(rate, ceiling), prefix = (size_t)tmv_scan_prefix_len(rate, ceiling);
-    const size_t envelope = (size_t)tmv_scan_envelope_len(rate, ceiling), levels = (size_t)tmv_scan_levels_len(rate, ceiling);
-    const size_t window = (size_t)tmv_scan_window_len(rate, ceiling);
-    if (lags == 0)
-        return TMVT_OUTSIDE_TABLE;
-    if (!tmvt_serves(kept, kept_bytes, TMV_SCAN_KEPT_BYTES(rate, ceiling)) || !tmvt_serves(scratch, scratch_bytes, TMV_SCAN_SCRATCH_BYTES(rate, ceiling)))
-        return TMVT_WRONG_LENGTH;
     memset(scan->state, 0, sizeof scan->state);
     scan->lag_sums = (double *)kept;
     scan->lag_sums_len = lags;
     scan->envelope = (float *)(scan->lag_sums + lags);
     scan->envelope_len = envelope;
     scan->levels = scan->envelope + envelope;
-    scan->levels_len = levels;
+    scan->levels_len = (size_t)tmv_scan_levels_len(rate, ceiling);
     scan->prefix = (double *)scratch;
     scan->prefix_len = prefix;
     scan->squares = scan->prefix + prefix;
@@ -266,7 +259,19 @@ TMV_CALL tmvt_scan_lend(struct tmv_scan *scan, uint32_t rate, uint32_t ceiling, 
     scan->scores = scan->squares + prefix;
     scan->scores_len = lags;
     scan->window = (float *)(scan->scores + lags);
-    scan->window_len = window;
+    scan->window_len = (size_t)tmv_scan_window_len(rate, ceiling);
+}
+
+/* Does the same for settings that are known only at run time. The memory must have TMV_SCAN_KEPT_BYTES and TMV_SCAN_SCRATCH_BYTES, or more, must be aligned for a double, and must never be used as anything else.
+ * Refuses with 1 if rate or ceiling is outside the table, and with 2 if the memory is too small or not so aligned. */
+TMV_CALL tmvt_scan_lend(struct tmv_scan *scan, uint32_t rate, uint32_t ceiling, void *kept, size_t kept_bytes, void *scratch, size_t scratch_bytes)
+{
+    const size_t envelope = (size_t)tmv_scan_envelope_len(rate, ceiling);
+    if (envelope == 0)
+        return TMVT_OUTSIDE_TABLE;
+    if (!tmvt_serves(kept, kept_bytes, TMV_SCAN_KEPT_BYTES(rate, ceiling)) || !tmvt_serves(scratch, scratch_bytes, TMV_SCAN_SCRATCH_BYTES(rate, ceiling)))
+        return TMVT_WRONG_LENGTH;
+    tmvt_scan_part(scan, rate, ceiling, envelope, kept, scratch);
     return TMVT_ACCEPTED;
 }
 
@@ -404,6 +409,125 @@ TMV_CALL tmvt_scan_finished(const struct tmv_scan *scan, bool *finished)
 TMV_CALL tmvt_scan_exhausted(const struct tmv_scan *scan, bool *exhausted)
 {
     return tmvt_flag_of(tmv_scan_exhausted(scan->state, TMV_SCAN_WORDS), exhausted);
+}
+
+/* ---- the panel: a scan of the narrow profile. Its memory is a scan's but for a shorter envelope. */
+
+struct tmv_panel {
+    struct tmv_scan held;
+};
+
+#define TMV_PANEL_KEPT(rate, ceiling)                           \
+    struct {                                                    \
+        double lag_sums[TMV_SCAN_LAGS_LEN(rate, ceiling)];      \
+        float envelope[TMV_PANEL_ENVELOPE_LEN(rate, ceiling)];  \
+        float levels[TMV_SCAN_LEVELS_LEN(rate, ceiling)];       \
+    }
+#define TMV_PANEL_SCRATCH(rate, ceiling) TMV_SCAN_SCRATCH(rate, ceiling)
+#define TMV_PANEL_OVER(kept, scratch) {TMV_SCAN_OVER(kept, scratch)}
+
+/* Divides memory as tmvt_scan_lend does: TMV_PANEL_KEPT_BYTES and TMV_PANEL_SCRATCH_BYTES, or more. */
+TMV_CALL tmvt_panel_lend(struct tmv_panel *panel, uint32_t rate, uint32_t ceiling, void *kept, size_t kept_bytes, void *scratch, size_t scratch_bytes)
+{
+    const size_t envelope = (size_t)tmv_panel_envelope_len(rate, ceiling);
+    if (envelope == 0)
+        return TMVT_OUTSIDE_TABLE;
+    if (!tmvt_serves(kept, kept_bytes, TMV_PANEL_KEPT_BYTES(rate, ceiling)) || !tmvt_serves(scratch, scratch_bytes, TMV_PANEL_SCRATCH_BYTES(rate, ceiling)))
+        return TMVT_WRONG_LENGTH;
+    tmvt_scan_part(&panel->held, rate, ceiling, envelope, kept, scratch);
+    return TMVT_ACCEPTED;
+}
+
+TMV_CALL tmvt_panel_new(struct tmv_panel *panel, uint32_t rate, uint32_t ceiling)
+{
+    return tmvt_refusal_of(tmv_panel_new(panel->held.state, TMV_SCAN_WORDS, panel->held.envelope, panel->held.envelope_len, panel->held.lag_sums, panel->held.lag_sums_len, rate, ceiling));
+}
+
+TMV_CALL tmvt_panel_reset(struct tmv_panel *panel)
+{
+    return tmvt_refusal_of(tmv_panel_reset(panel->held.state, TMV_SCAN_WORDS, panel->held.envelope, panel->held.envelope_len, panel->held.lag_sums, panel->held.lag_sums_len));
+}
+
+TMV_CALL tmvt_panel_rearm(struct tmv_panel *panel)
+{
+    return tmvt_refusal_of(tmv_panel_rearm(panel->held.state, TMV_SCAN_WORDS, panel->held.lag_sums, panel->held.lag_sums_len));
+}
+
+TMV_CALL tmvt_panel_discard_near(struct tmv_panel *panel)
+{
+    return tmvt_refusal_of(tmv_panel_discard_near(panel->held.state, TMV_SCAN_WORDS, panel->held.lag_sums, panel->held.lag_sums_len));
+}
+
+TMV_CALL tmvt_panel_push_far(struct tmv_panel *panel, const float *samples, size_t count)
+{
+    return tmvt_refusal_of(tmv_panel_push_far(panel->held.state, TMV_SCAN_WORDS, panel->held.envelope, panel->held.envelope_len, samples, count));
+}
+
+TMV_CALL tmvt_panel_push_near(struct tmv_panel *panel, float sample, uint64_t index, enum tmv_taking *taking)
+{
+    return tmvt_taking_of(tmv_panel_push_near(panel->held.state, TMV_SCAN_WORDS, panel->held.levels, panel->held.levels_len, sample, index), taking);
+}
+
+/* `taken` is how many of the samples were taken. */
+TMV_CALL tmvt_panel_push_near_run(struct tmv_panel *panel, const float *samples, size_t count, uint64_t first, enum tmv_taking *taking, size_t *taken)
+{
+    uint64_t values[1] = {0};
+    const uint32_t number = tmv_panel_push_near_run(panel->held.state, TMV_SCAN_WORDS, panel->held.levels, panel->held.levels_len, samples, count, first, values, 1);
+    if (tmvt_answered(number))
+        *taken = (size_t)values[0];
+    return tmvt_taking_of(number, taking);
+}
+
+TMV_CALL tmvt_panel_observe(struct tmv_panel *panel, struct tmv_frame *frame)
+{
+    uint64_t values[3] = {0, 0, 0};
+    const uint32_t number = tmv_panel_observe(panel->held.state, TMV_SCAN_WORDS, panel->held.envelope, panel->held.envelope_len, panel->held.levels, panel->held.levels_len, panel->held.window, panel->held.window_len, panel->held.prefix,
+                                              panel->held.prefix_len, panel->held.squares, panel->held.squares_len, panel->held.scores, panel->held.scores_len, panel->held.lag_sums, panel->held.lag_sums_len, values, 3);
+    return tmvt_frame_of(number, values, frame);
+}
+
+TMV_CALL tmvt_panel_region(const struct tmv_panel *panel, struct tmv_region *region)
+{
+    uint64_t values[2] = {0, 0};
+    const uint32_t number = tmv_panel_region(panel->held.state, TMV_SCAN_WORDS, values, 2);
+    return tmvt_region_of(number, values, region);
+}
+
+TMV_CALL tmvt_panel_bin_samples(const struct tmv_panel *panel, uint64_t *samples)
+{
+    return tmvt_refusal_of(tmv_panel_bin_samples(panel->held.state, TMV_SCAN_WORDS, samples, 1));
+}
+
+TMV_CALL tmvt_panel_ceiling_samples(const struct tmv_panel *panel, uint64_t *samples)
+{
+    return tmvt_refusal_of(tmv_panel_ceiling_samples(panel->held.state, TMV_SCAN_WORDS, samples, 1));
+}
+
+TMV_CALL tmvt_panel_frames(const struct tmv_panel *panel, uint64_t *frames)
+{
+    return tmvt_refusal_of(tmv_panel_frames(panel->held.state, TMV_SCAN_WORDS, frames, 1));
+}
+
+TMV_CALL tmvt_panel_correlation(const struct tmv_panel *panel, float *correlation)
+{
+    uint64_t bits = 0;
+    const uint32_t number = tmv_panel_correlation(panel->held.state, TMV_SCAN_WORDS, &bits, 1);
+    return tmvt_float_of(number, bits, correlation);
+}
+
+TMV_CALL tmvt_panel_beyond_ceiling(const struct tmv_panel *panel, bool *beyond)
+{
+    return tmvt_flag_of(tmv_panel_beyond_ceiling(panel->held.state, TMV_SCAN_WORDS), beyond);
+}
+
+TMV_CALL tmvt_panel_finished(const struct tmv_panel *panel, bool *finished)
+{
+    return tmvt_flag_of(tmv_panel_finished(panel->held.state, TMV_SCAN_WORDS), finished);
+}
+
+TMV_CALL tmvt_panel_exhausted(const struct tmv_panel *panel, bool *exhausted)
+{
+    return tmvt_flag_of(tmv_panel_exhausted(panel->held.state, TMV_SCAN_WORDS), exhausted);
 }
 
 /* ---- the pair: two microphones, one loudspeaker. A channel is 0 or 1; any other number is refused with 11. */

@@ -5,6 +5,7 @@
 
 static const unsigned long rates[] = {8000, 16000, 44100, 48000, 96000};
 static const unsigned long ceilings[] = {100, 250, 500, 1000, 4000};
+static const unsigned long panel_ceilings[] = {8, 40, 80, 160, 250, 320};
 static const unsigned long spans[] = {512, 1024, 2048, 4096, 8192, 32768};
 
 int main(void)
@@ -16,6 +17,14 @@ int main(void)
             printf("| %lu | %lu | %lu | %lu |\n", rates[i], ceilings[j], TMV_SCAN_KEPT_BYTES(rates[i], ceilings[j]), TMV_SCAN_SCRATCH_BYTES(rates[i], ceilings[j]));
     printf("| any, at most | any | %lu | %lu |\n", 8UL * TMV_SCAN_LAGS_MOST + 4UL * TMV_SCAN_ENVELOPE_MOST + 4UL * TMV_SCAN_LEVELS_MOST,
            16UL * TMV_SCAN_PREFIX_MOST + 8UL * TMV_SCAN_LAGS_MOST + 4UL * TMV_SCAN_WINDOW_MOST);
+
+    printf("\n## The panel\n\nThe narrow profile: 8,000 or 16,000 Hz, 8 to 320 ms. Its state has %lu bytes. At both rates the lists are the same.\n\n", 8UL * TMV_SCAN_WORDS);
+    printf("| Ceiling in ms | Kept | Scratch | All of it | A scan |\n|---|---|---|---|---|\n");
+    for (size_t i = 0; i < sizeof panel_ceilings / sizeof *panel_ceilings; i++) {
+        const unsigned long ceiling = panel_ceilings[i], kept = TMV_PANEL_KEPT_BYTES(16000UL, ceiling), scratch = TMV_PANEL_SCRATCH_BYTES(16000UL, ceiling);
+        printf("| %lu | %lu | %lu | %lu | %lu |\n", ceiling, kept, scratch, 8UL * TMV_SCAN_WORDS + kept + scratch, 8UL * TMV_SCAN_WORDS + TMV_SCAN_KEPT_BYTES(16000UL, ceiling) + TMV_SCAN_SCRATCH_BYTES(16000UL, ceiling));
+    }
+    printf("\nA panel takes at most %lu bytes: less than 24 KiB, which are %lu.\n", TMV_PANEL_BYTES_MOST, 24UL * 1024UL);
 
     printf("\n## The pair\n\nTwo microphones, one loudspeaker: one envelope for both. State and kept lists of a pair, and of two scans in its place. Scratch is one scan's, for two scans too.\n\n");
     printf("| Rate in Hz | Ceiling in ms | A pair | Two scans |\n|---|---|---|---|\n");

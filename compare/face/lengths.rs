@@ -2,8 +2,10 @@
 
 use crate::choices;
 use crate::face;
+use crate::panels::PANEL;
 use crate::random::Random;
 use crate::rules::{self, Bins, Lengths};
+use crate::scans::profile::FULL;
 
 pub fn run(seed: u64, count: u64) -> bool {
     let mut random = Random::new(seed);
@@ -14,8 +16,14 @@ pub fn run(seed: u64, count: u64) -> bool {
             1 => choices::word(random, most) as u32,
             _ => random.between(least, most) as u32,
         };
-        let rate = number(&mut random, 8_000, 192_000);
-        let ceiling = number(&mut random, 1, 4_000);
+        let (mut rate, mut ceiling) = (
+            number(&mut random, 8_000, 192_000),
+            number(&mut random, 1, 4_000),
+        );
+        if random.once_in(2) {
+            rate = random.one_of(PANEL.rates);
+            ceiling = number(&mut random, 8, 320);
+        }
         let span = number(&mut random, 1, 32_768);
         if scan_lengths(rate, ceiling) != told_scan(rate, ceiling)
             || fine_lengths(span) != told_fine(span)
@@ -41,9 +49,10 @@ pub fn run(seed: u64, count: u64) -> bool {
     different == 0
 }
 
-fn told_scan(rate: u32, ceiling: u32) -> [u64; 5] {
+fn told_scan(rate: u32, ceiling: u32) -> [u64; 6] {
     use face::scan as f;
     [
+        face::panel::envelope_len(rate, ceiling),
         f::envelope_len(rate, ceiling),
         f::levels_len(rate, ceiling),
         f::window_len(rate, ceiling),
@@ -52,13 +61,18 @@ fn told_scan(rate: u32, ceiling: u32) -> [u64; 5] {
     ]
 }
 
-fn scan_lengths(rate: u32, ceiling: u32) -> [u64; 5] {
+fn scan_lengths(rate: u32, ceiling: u32) -> [u64; 6] {
     let (rate, ceiling) = (rate as u64, ceiling as u64);
-    if !rules::allowed_rate(rate) || !rules::allowed_ceiling(ceiling) {
-        return [0; 5];
+    if !(FULL.allowed)(rate, ceiling) {
+        return [0; 6];
     }
     let bins = Bins::of(rate, ceiling);
+    let panel = match (PANEL.allowed)(rate, ceiling) {
+        true => Bins::with(PANEL.slack, rate, ceiling).envelope(),
+        false => 0,
+    };
     [
+        panel,
         bins.envelope(),
         bins.frame,
         bins.window(),

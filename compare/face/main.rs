@@ -3,6 +3,9 @@
 #[path = "../../target/compare/original/coarse.rs"]
 #[allow(dead_code)]
 mod coarse;
+#[path = "../../target/compare/original/coarse_panel.rs"]
+#[allow(dead_code)]
+mod coarse_panel;
 #[path = "../../target/compare/original/delay.rs"]
 #[allow(dead_code)]
 mod delay;
@@ -32,6 +35,7 @@ mod lengths;
 mod lent;
 mod lists;
 mod pairs;
+mod panels;
 mod rings;
 mod rules;
 mod scans;
@@ -46,6 +50,8 @@ face roots SEED COUNT     square roots alone, one by one and in lists
 face ring SEED CALLS      the named cases, then every call in random order with random damage; so for tracker, scan and fine
 face frames SEED COUNT    frames to be scored, bit for bit
 face streams SEED SCANS   whole streams from samples
+face panel SEED CALLS     a panel beside the original with its slack
+face panel-streams SEED N whole streams of a panel and of a scan, and where they part
 face pair SEED CALLS      a pair beside two scans of the original, with damage to the channel that is not asked
 face pair-streams SEED N  whole streams of two channels from samples
 face lengths SEED COUNT   the lengths by rate and ceiling or span
@@ -81,6 +87,8 @@ fn one(what: &str, seed: u64, count: u64) -> bool {
         "streams" => scans::streams::run(seed, count),
         "pair" => course::run::<pairs::Pair>(seed, count),
         "pair-streams" => pairs::streams::run(seed, count),
+        "panel" => course::run::<scans::Scan<panels::Panel>>(seed, count),
+        "panel-streams" => panels::streams::run(seed, count),
         "lengths" => lengths::run(seed, count),
         _ => usage(),
     }
@@ -96,6 +104,8 @@ fn short(seed: u64) -> bool {
         ("fine", 300_000),
         ("frames", 1_000),
         ("streams", 3),
+        ("panel", 200_000),
+        ("panel-streams", 20),
         ("pair", 200_000),
         ("pair-streams", 10),
     ];

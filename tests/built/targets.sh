@@ -37,9 +37,9 @@ try() { # a processor
   compare "$1" differences
   compare "$1" floats 1 $((5000 * many))
   compare "$1" lengths 1 $((2000 * many))
-  for part in ring tracker scan pair fine; do compare "$1" "$part" 1 $((5000 * many)); done
+  for part in ring tracker scan panel pair fine; do compare "$1" "$part" 1 $((5000 * many)); done
   compare "$1" frames 1 $((50 * many))
-  echo "targets: $1: $((25000 * many)) calls beside the Rust, damage and all, 0 different"
+  echo "targets: $1: $((30000 * many)) calls beside the Rust, damage and all, 0 different"
 }
 
 others=

@@ -5,7 +5,7 @@ import re
 import sys
 
 HEADER = pathlib.Path("include/trimolaveg.h")
-FACE = [f"crates/{part}_face/src" for part in ("version", "floats", "ring", "scan", "scan_handover", "scan_pair", "tracker", "fine", "fine_handover", "ring_window")]
+FACE = [f"crates/{part}_face/src" for part in ("version", "floats", "ring", "scan", "scan_handover", "scan_panel", "scan_panel_reports", "scan_pair", "tracker", "fine", "fine_handover", "ring_window")]
 # Where an answer's case gets its number.
 NUMBERING = [*FACE, "crates/ring_words/src", "crates/scan_words/src", "crates/tracker_words/src", "crates/fine_words/src"]
 # A part may have a refusal of its own.

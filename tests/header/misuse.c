@@ -40,6 +40,14 @@ int main(void)
 #elif WRONG == 6 /* memory for a setting outside the table */
     static TMV_SCAN_KEPT(48000, 4001) none;
     (void)none;
+#elif WRONG == 7 /* memory for a setting that the panel's profile does not allow */
+    static TMV_PANEL_KEPT(48000, 320) none;
+    (void)none;
+#elif WRONG == 8 /* a panel is taken for a scan */
+    static TMV_PANEL_KEPT(16000, 320) narrow;
+    static struct tmv_panel panel = TMV_PANEL_OVER(narrow, scratch);
+    if (tmvt_scan_rearm(&panel))
+        return 1;
 #endif
     return tmvt_scan_finished(&scan, &finished) || finished;
 }

@@ -6,7 +6,7 @@ import sys
 
 FOLDER = pathlib.Path("include")
 # Calls that answer a value itself, and so need no type.
-PLAIN = r"tmv_(version|narrow|square_roots?|is_finite|is_finite32|magnitude|\w+_words|scan_\w+_len|fine_(frame|window|correlation|transform)_len)"
+PLAIN = r"tmv_(version|narrow|square_roots?|is_finite|is_finite32|magnitude|\w+_words|scan_\w+_len|panel_envelope_len|fine_(frame|window|correlation|transform)_len)"
 # Answers that say whether there is a value: in C a bool beside it.
 EITHER = r"TMV_(NO|YES|DONE|ANSWERED|REGION_\w+|RING_\w+|PEAK_\w+|POSITION_\w+)"
 NOT_ANSWERS = r"TMV_(\w+_WORDS|VERSION_\w+)"

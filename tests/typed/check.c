@@ -63,6 +63,46 @@ static void scan(void)
     EXPECT(tmvt_scan_finished(&scan, &flag) == TMVT_BROKEN_STATE && flag);
 }
 
+static void panel(void)
+{
+    static TMV_PANEL_KEPT(16000, 320) kept;
+    static TMV_PANEL_SCRATCH(16000, 320) scratch;
+    static struct tmv_panel panel = TMV_PANEL_OVER(kept, scratch);
+    const float played[2] = {0.5f, NAN}, heard[3] = {0.5f, 0.25f, NAN};
+    struct tmv_frame frame = {TMVT_FRAME_FLAT, 1, 2, 3, 4};
+    struct tmv_region region = {true, 1, 2};
+    enum tmv_taking taking = TMVT_TAKING_DROPPED;
+    uint64_t number = 0, index = 2;
+    size_t taken = 7;
+    float correlation = 1;
+    bool flag = true;
+
+    EXPECT(tmvt_panel_frames(&panel, &number) == TMVT_OUTSIDE_TABLE && number == 0);
+    EXPECT(tmvt_panel_new(&panel, 12000, 320) == TMVT_OUTSIDE_TABLE && tmvt_panel_new(&panel, 16000, 7) == TMVT_OUTSIDE_TABLE && tmvt_panel_new(&panel, 16000, 321) == TMVT_OUTSIDE_TABLE);
+    EXPECT(tmvt_panel_new(&panel, 16000, 319) == TMVT_WRONG_LENGTH && tmvt_scan_new(&panel.held, 16000, 320) == TMVT_WRONG_LENGTH);
+    EXPECT(tmvt_panel_new(&panel, 16000, 320) == TMVT_ACCEPTED);
+    EXPECT(tmvt_panel_push_far(&panel, played, 1) == TMVT_ACCEPTED);
+    EXPECT(tmvt_panel_push_far(&panel, played, 2) == TMVT_NOT_FINITE);
+    EXPECT(tmvt_panel_observe(&panel, &frame) == TMVT_NO_FULL_FRAME && frame.kind == TMVT_FRAME_FLAT && frame.delay == 2 && frame.products == 4);
+    EXPECT(tmvt_panel_push_near_run(&panel, heard, 3, 0, &taking, &taken) == TMVT_NOT_FINITE && taken == 7 && taking == TMVT_TAKING_DROPPED);
+    EXPECT(tmvt_panel_push_near_run(&panel, heard, 2, 0, &taking, &taken) == TMVT_ACCEPTED && taken == 2 && taking == TMVT_TAKING_TAKEN);
+    while (!tmvt_panel_push_near(&panel, 0.5f, index, &taking) && taking == TMVT_TAKING_TAKEN)
+        index++;
+    EXPECT(taking == TMVT_TAKING_FULL && index + 1 == 16 * TMV_SCAN_LEVELS_LEN(16000, 320));
+    EXPECT(tmvt_panel_push_near(&panel, 0.5f, index + 1, &taking) == TMVT_FRAME_WAITS);
+    EXPECT(tmvt_panel_observe(&panel, &frame) == TMVT_ACCEPTED && frame.kind == TMVT_FRAME_UNCOVERED && frame.delay == 0 && frame.products == 0);
+    EXPECT(tmvt_panel_region(&panel, &region) == TMVT_ACCEPTED && !region.found && region.delay == 0);
+    EXPECT(tmvt_panel_bin_samples(&panel, &number) == TMVT_ACCEPTED && number == 16);
+    EXPECT(tmvt_panel_ceiling_samples(&panel, &number) == TMVT_ACCEPTED && number == 5120);
+    EXPECT(tmvt_panel_frames(&panel, &number) == TMVT_ACCEPTED && number == 0);
+    EXPECT(tmvt_panel_correlation(&panel, &correlation) == TMVT_ACCEPTED && correlation == 0);
+    EXPECT(tmvt_panel_finished(&panel, &flag) == TMVT_ACCEPTED && !flag);
+    EXPECT(tmvt_panel_exhausted(&panel, &flag) == TMVT_ACCEPTED && !flag);
+    EXPECT(tmvt_panel_beyond_ceiling(&panel, &flag) == TMVT_ACCEPTED && !flag);
+    EXPECT(!tmvt_panel_discard_near(&panel) && !tmvt_panel_rearm(&panel) && !tmvt_panel_reset(&panel));
+    EXPECT(tmvt_scan_finished(&panel.held, &flag) == TMVT_ACCEPTED && !flag);
+}
+
 static void pair(void)
 {
     static TMV_PAIR_KEPT(RATE, CEILING) kept;
@@ -224,6 +264,7 @@ static void texts(void)
 int main(void)
 {
     scan();
+    panel();
     pair();
     fine();
     tracker();

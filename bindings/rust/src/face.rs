@@ -75,6 +75,28 @@ pub mod scan {
     }
 }
 
+pub mod panel {
+    face! {
+        envelope_len = tmv_panel_envelope_len(rate: number u32, ceiling: number u32) -> u64;
+        new = tmv_panel_new(state: write u64, envelope: write f32, lag_sums: write f64, rate: number u32, ceiling: number u32) -> u32;
+        reset = tmv_panel_reset(state: write u64, envelope: write f32, lag_sums: write f64) -> u32;
+        rearm = tmv_panel_rearm(state: write u64, lag_sums: write f64) -> u32;
+        discard_near = tmv_panel_discard_near(state: write u64, lag_sums: write f64) -> u32;
+        push_far = tmv_panel_push_far(state: write u64, envelope: write f32, samples: read f32) -> u32;
+        push_near = tmv_panel_push_near(state: write u64, levels: write f32, sample: number f32, index: number u64) -> u32;
+        push_near_run = tmv_panel_push_near_run(state: write u64, levels: write f32, samples: read f32, first: number u64, values: write u64) -> u32;
+        observe = tmv_panel_observe(state: write u64, envelope: read f32, levels: read f32, window: write f32, prefix: write f64, squares: write f64, scores: write f64, lag_sums: write f64, values: write u64) -> u32;
+        bin_samples = tmv_panel_bin_samples(state: read u64, values: write u64) -> u32;
+        ceiling_samples = tmv_panel_ceiling_samples(state: read u64, values: write u64) -> u32;
+        frames = tmv_panel_frames(state: read u64, values: write u64) -> u32;
+        correlation = tmv_panel_correlation(state: read u64, values: write u64) -> u32;
+        region = tmv_panel_region(state: read u64, values: write u64) -> u32;
+        beyond_ceiling = tmv_panel_beyond_ceiling(state: read u64) -> u32;
+        finished = tmv_panel_finished(state: read u64) -> u32;
+        exhausted = tmv_panel_exhausted(state: read u64) -> u32;
+    }
+}
+
 pub mod pair {
     face! {
         words = tmv_pair_words() -> u64;

@@ -33,6 +33,7 @@ mod face;
 pub mod fine;
 pub mod floats;
 pub mod pair;
+pub mod panel;
 pub mod ring;
 pub mod scan;
 #[cfg(test)]
@@ -42,6 +43,7 @@ pub mod tracker;
 pub use answers::Refusal;
 pub use fine::{Candidate, Fine, FineTaking, Gate, Peak, Positions, Rescan};
 pub use pair::{Channel, Pair, PairMemory};
+pub use panel::Panel;
 pub use ring::{Missing, Ring};
 pub use scan::{Frame, Region, Scan, ScanMemory, Scored, Taking};
 pub use tracker::{Cycle, Tracker, Trigger, Verdict};

@@ -1,7 +1,6 @@
 //! The coarse scan: in which millisecond or so the echo lives, over the whole ceiling.
 
-use crate::answers::{answer, done, flag, report, unknown, Refusal};
-use crate::face::scan as face;
+use crate::answers::{answer, flag, unknown, Refusal};
 
 pub(crate) const WORDS: usize = 25;
 
@@ -184,95 +183,103 @@ pub struct Scan<'m> {
     memory: ScanMemory<'m>,
 }
 
-impl<'m> Scan<'m> {
-    /// A new scan over this memory, of which envelope and lag sums are cleared.
-    pub fn new(memory: ScanMemory<'m>, rate: u32, ceiling: u32) -> Result<Scan<'m>, Refusal> {
-        let mut scan = Scan { state: [0; WORDS], memory };
-        let m = &mut scan.memory;
-        done(face::new(&mut scan.state, m.envelope, m.lag_sums, rate, ceiling))?;
-        Ok(scan)
-    }
+/// The calls of a scan, for each part of the face that has them.
+macro_rules! scan_calls {
+    ($part:ident, $face:ident) => {
+        impl<'m> $part<'m> {
+            /// A new scan over this memory, of which envelope and lag sums are cleared.
+            pub fn new(memory: ScanMemory<'m>, rate: u32, ceiling: u32) -> Result<$part<'m>, Refusal> {
+                let mut scan = $part { state: [0; $crate::scan::WORDS], memory };
+                let m = &mut scan.memory;
+                $crate::answers::done($crate::face::$face::new(&mut scan.state, m.envelope, m.lag_sums, rate, ceiling))?;
+                Ok(scan)
+            }
 
-    /// The scan as it was made.
-    pub fn reset(&mut self) -> Result<(), Refusal> {
-        done(face::reset(&mut self.state, self.memory.envelope, self.memory.lag_sums))
-    }
+            /// The scan as it was made.
+            pub fn reset(&mut self) -> Result<(), Refusal> {
+                $crate::answers::done($crate::face::$face::reset(&mut self.state, self.memory.envelope, self.memory.lag_sums))
+            }
 
-    /// Searches anew on the same far history.
-    pub fn rearm(&mut self) -> Result<(), Refusal> {
-        done(face::rearm(&mut self.state, self.memory.lag_sums))
-    }
+            /// Searches anew on the same far history.
+            pub fn rearm(&mut self) -> Result<(), Refusal> {
+                $crate::answers::done($crate::face::$face::rearm(&mut self.state, self.memory.lag_sums))
+            }
 
-    /// Drops the near frame under way and the frames banked, where the near stream was cut.
-    pub fn discard_near(&mut self) -> Result<(), Refusal> {
-        done(face::discard_near(&mut self.state, self.memory.lag_sums))
-    }
+            /// Drops the near frame under way and the frames banked, where the near stream was cut.
+            pub fn discard_near(&mut self) -> Result<(), Refusal> {
+                $crate::answers::done($crate::face::$face::discard_near(&mut self.state, self.memory.lag_sums))
+            }
 
-    /// Far samples in played order.
-    pub fn push_far(&mut self, samples: &[f32]) -> Result<(), Refusal> {
-        done(face::push_far(&mut self.state, self.memory.envelope, samples))
-    }
+            /// Far samples in played order.
+            pub fn push_far(&mut self, samples: &[f32]) -> Result<(), Refusal> {
+                $crate::answers::done($crate::face::$face::push_far(&mut self.state, self.memory.envelope, samples))
+            }
 
-    /// One near sample with its far index. An index that is not the last one plus one drops the frame under way.
-    pub fn push_near(&mut self, sample: f32, index: u64) -> Result<Taking, Refusal> {
-        Taking::of(face::push_near(&mut self.state, self.memory.levels, sample, index))
-    }
+            /// One near sample with its far index. An index that is not the last one plus one drops the frame under way.
+            pub fn push_near(&mut self, sample: f32, index: u64) -> Result<Taking, Refusal> {
+                Taking::of($crate::face::$face::push_near(&mut self.state, self.memory.levels, sample, index))
+            }
 
-    /// A run of near samples with its first index, up to the one that completes the frame: what became of them, and how many were taken.
-    pub fn push_near_run(&mut self, samples: &[f32], first: u64) -> Result<(Taking, usize), Refusal> {
-        let mut values = [0; 1];
-        let taking = Taking::of(face::push_near_run(&mut self.state, self.memory.levels, samples, first, &mut values))?;
-        Ok((taking, values[0] as usize))
-    }
+            /// A run of near samples with its first index, up to the one that completes the frame: what became of them, and how many were taken.
+            pub fn push_near_run(&mut self, samples: &[f32], first: u64) -> Result<(Taking, usize), Refusal> {
+                let mut values = [0; 1];
+                let taking = Taking::of($crate::face::$face::push_near_run(&mut self.state, self.memory.levels, samples, first, &mut values))?;
+                Ok((taking, values[0] as usize))
+            }
 
-    /// Scores the full near frame, and consumes it.
-    pub fn observe(&mut self) -> Result<Scored, Refusal> {
-        let mut values = [0; 3];
-        let m = &mut self.memory;
-        let number = face::observe(
-            &mut self.state, m.envelope, m.levels, m.window, m.prefix, m.squares, m.scores, m.lag_sums, &mut values,
-        );
-        Scored::of(number, values)
-    }
+            /// Scores the full near frame, and consumes it.
+            pub fn observe(&mut self) -> Result<Scored, Refusal> {
+                let mut values = [0; 3];
+                let m = &mut self.memory;
+                let number = $crate::face::$face::observe(
+                    &mut self.state, m.envelope, m.levels, m.window, m.prefix, m.squares, m.scores, m.lag_sums, &mut values,
+                );
+                Scored::of(number, values)
+            }
 
-    /// The region, if one was found.
-    pub fn region(&self) -> Result<Option<Region>, Refusal> {
-        let mut values = [0; 2];
-        Region::of(face::region(&self.state, &mut values), values)
-    }
+            /// The region, if one was found.
+            pub fn region(&self) -> Result<Option<Region>, Refusal> {
+                let mut values = [0; 2];
+                Region::of($crate::face::$face::region(&self.state, &mut values), values)
+            }
 
-    /// Samples in a bin.
-    pub fn bin_samples(&self) -> Result<u64, Refusal> {
-        report(|values| face::bin_samples(&self.state, values))
-    }
+            /// Samples in a bin.
+            pub fn bin_samples(&self) -> Result<u64, Refusal> {
+                $crate::answers::report(|values| $crate::face::$face::bin_samples(&self.state, values))
+            }
 
-    /// The ceiling in samples.
-    pub fn ceiling_samples(&self) -> Result<u64, Refusal> {
-        report(|values| face::ceiling_samples(&self.state, values))
-    }
+            /// The ceiling in samples.
+            pub fn ceiling_samples(&self) -> Result<u64, Refusal> {
+                $crate::answers::report(|values| $crate::face::$face::ceiling_samples(&self.state, values))
+            }
 
-    /// Frames counted.
-    pub fn frames(&self) -> Result<u64, Refusal> {
-        report(|values| face::frames(&self.state, values))
-    }
+            /// Frames counted.
+            pub fn frames(&self) -> Result<u64, Refusal> {
+                $crate::answers::report(|values| $crate::face::$face::frames(&self.state, values))
+            }
 
-    /// The region's correlation if there is one, else the last frame's peak.
-    pub fn correlation(&self) -> Result<f32, Refusal> {
-        report(|values| face::correlation(&self.state, values)).map(|bits| f32::from_bits(bits as u32))
-    }
+            /// The region's correlation if there is one, else the last frame's peak.
+            pub fn correlation(&self) -> Result<f32, Refusal> {
+                $crate::answers::report(|values| $crate::face::$face::correlation(&self.state, values)).map(|bits| f32::from_bits(bits as u32))
+            }
 
-    /// Whether a peak stood at the ceiling.
-    pub fn beyond_ceiling(&self) -> Result<bool, Refusal> {
-        flag(face::beyond_ceiling(&self.state))
-    }
+            /// Whether a peak stood at the ceiling.
+            pub fn beyond_ceiling(&self) -> Result<bool, Refusal> {
+                $crate::answers::flag($crate::face::$face::beyond_ceiling(&self.state))
+            }
 
-    /// Whether the scan has a region or has given up.
-    pub fn finished(&self) -> Result<bool, Refusal> {
-        flag(face::finished(&self.state))
-    }
+            /// Whether the scan has a region or has given up.
+            pub fn finished(&self) -> Result<bool, Refusal> {
+                $crate::answers::flag($crate::face::$face::finished(&self.state))
+            }
 
-    /// Whether it has given up.
-    pub fn exhausted(&self) -> Result<bool, Refusal> {
-        flag(face::exhausted(&self.state))
-    }
+            /// Whether it has given up.
+            pub fn exhausted(&self) -> Result<bool, Refusal> {
+                $crate::answers::flag($crate::face::$face::exhausted(&self.state))
+            }
+        }
+    };
 }
+pub(crate) use scan_calls;
+
+scan_calls!(Scan, scan);

@@ -2,7 +2,7 @@
 
 use crate::answers::done;
 use crate::face;
-use crate::{fine, pair, ring, scan, tracker, Refusal};
+use crate::{fine, pair, panel, ring, scan, tracker, Refusal};
 
 #[test]
 fn words() {
@@ -26,9 +26,10 @@ fn version() {
 
 #[test]
 fn scan_lengths() {
-    for rate in (7_999..=192_001).step_by(7).chain([0, 8_000, 8_499, 48_000, 192_000, u32::MAX]) {
-        for ceiling in [0, 1, 3, 500, 999, 4_000, 4_001, u32::MAX] {
+    for rate in (7_999..=192_001).step_by(7).chain([0, 8_000, 8_499, 12_000, 16_000, 16_001, 48_000, 192_000, u32::MAX]) {
+        for ceiling in [0, 1, 3, 7, 8, 100, 320, 321, 500, 999, 4_000, 4_001, u32::MAX] {
             let ours = [
+                panel::envelope_len(rate, ceiling),
                 scan::envelope_len(rate, ceiling),
                 scan::levels_len(rate, ceiling),
                 scan::window_len(rate, ceiling),
@@ -36,6 +37,7 @@ fn scan_lengths() {
                 scan::lags_len(rate, ceiling),
             ];
             let archive = [
+                face::panel::envelope_len(rate, ceiling),
                 face::scan::envelope_len(rate, ceiling),
                 face::scan::levels_len(rate, ceiling),
                 face::scan::window_len(rate, ceiling),

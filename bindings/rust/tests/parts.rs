@@ -1,7 +1,7 @@
 //! Each part as a host uses it, with its refusals.
 
-use trimolaveg::{fine, floats, scan};
-use trimolaveg::{Channel, Cycle, Fine, FineTaking, Frame, Gate, Missing, Pair, PairMemory, Peak, Positions, Refusal, Rescan, Ring, Scan, ScanMemory, Scored, Taking, Tracker, Trigger, Verdict};
+use trimolaveg::{fine, floats, panel, scan};
+use trimolaveg::{Channel, Cycle, Fine, FineTaking, Frame, Gate, Missing, Pair, PairMemory, Panel, Peak, Positions, Refusal, Rescan, Ring, Scan, ScanMemory, Scored, Taking, Tracker, Trigger, Verdict};
 
 const RATE: u32 = 48_000;
 const CEILING: u32 = 500;
@@ -14,9 +14,13 @@ struct Lists {
 
 impl Lists {
     fn new() -> Lists {
-        let prefix = scan::prefix_len(RATE, CEILING);
-        let lags = scan::lags_len(RATE, CEILING);
-        let floats = [scan::envelope_len(RATE, CEILING), scan::levels_len(RATE, CEILING), scan::window_len(RATE, CEILING)];
+        Lists::with(scan::envelope_len(RATE, CEILING), RATE, CEILING)
+    }
+
+    fn with(envelope: usize, rate: u32, ceiling: u32) -> Lists {
+        let prefix = scan::prefix_len(rate, ceiling);
+        let lags = scan::lags_len(rate, ceiling);
+        let floats = [envelope, scan::levels_len(rate, ceiling), scan::window_len(rate, ceiling)];
         Lists { floats: floats.map(|len| vec![0.0; len]), doubles: [prefix, prefix, lags, lags].map(|len| vec![0.0; len]) }
     }
 
@@ -126,6 +130,59 @@ fn a_pair_finds_two_echoes_and_keeps_its_channels_apart() {
     assert_eq!((pair.beyond_ceiling(First), pair.bin_samples(), pair.ceiling_samples()), (Ok(false), Ok(48), Ok(24_000)));
     assert_eq!((pair.reset(), pair.region(Second)), (Ok(()), Ok(None)));
     assert_eq!(Refusal::NoSuchChannel.to_string(), "no such channel");
+}
+
+/// Feeds a frame of an echo from `first` on to both: what they said.
+fn frame_of_both(panel: &mut Panel, full: &mut Scan, played: &[f32], first: usize) -> (Scored, Scored) {
+    let heard: Vec<f32> = (first..first + 256 * 16).map(|i| if i < 2_400 { 0.0 } else { played[i - 2_400] * 0.5 }).collect();
+    assert_eq!(panel.push_near_run(&heard, first as u64), Ok((Taking::Full, heard.len())));
+    assert_eq!(full.push_near_run(&heard, first as u64), Ok((Taking::Full, heard.len())));
+    (panel.observe().unwrap(), full.observe().unwrap())
+}
+
+#[test]
+fn a_panel_answers_as_a_scan_until_its_history_ends() {
+    let (rate, ceiling) = (16_000, 320);
+    let played = noise(1, 4 * rate as usize);
+    let mut lists = Lists::with(panel::envelope_len(rate, ceiling), rate, ceiling);
+    let mut more = Lists::with(scan::envelope_len(rate, ceiling), rate, ceiling);
+    let (mut panel, mut full) = (Panel::new(lists.memory(), rate, ceiling).unwrap(), Scan::new(more.memory(), rate, ceiling).unwrap());
+    for at in (0..2 * rate as usize).step_by(256 * 16) {
+        let block = &played[at..at + 256 * 16];
+        assert_eq!((panel.push_far(block), full.push_far(block)), (Ok(()), Ok(())));
+        if full.finished() != Ok(true) {
+            let (ours, theirs) = frame_of_both(&mut panel, &mut full, &played, at);
+            assert_eq!(ours, theirs);
+        }
+    }
+    let region = panel.region().unwrap().expect("a region");
+    assert_eq!((region.delay, full.region()), (2_400, Ok(Some(region))));
+    let rest = &played[2 * rate as usize / (256 * 16) * (256 * 16) + 256 * 16..];
+    assert_eq!((panel.push_far(rest), full.push_far(rest)), (Ok(()), Ok(())));
+    // 1.7 s later the panel no longer has what was played then
+    assert_eq!((panel.rearm(), full.rearm()), (Ok(()), Ok(())));
+    let (ours, theirs) = frame_of_both(&mut panel, &mut full, &played, 2 * rate as usize);
+    assert_eq!((ours.frame, ours.products), (Frame::Uncovered, 0));
+    assert!(matches!(theirs.frame, Frame::Banked { .. }));
+    // after a rearm they agree again
+    assert_eq!((panel.rearm(), full.rearm()), (Ok(()), Ok(())));
+    let (ours, theirs) = frame_of_both(&mut panel, &mut full, &played, 4 * rate as usize - 256 * 16);
+    assert!(matches!(ours.frame, Frame::Banked { .. }));
+    assert_eq!(ours, theirs);
+    assert_eq!((panel.frames(), panel.beyond_ceiling(), panel.exhausted()), (Ok(1), Ok(false), Ok(false)));
+    assert_eq!((panel.bin_samples(), panel.ceiling_samples()), (Ok(16), Ok(5_120)));
+    assert_eq!((panel.discard_near(), panel.reset()), (Ok(()), Ok(())));
+}
+
+#[test]
+fn a_panel_refuses_what_its_profile_does_not_allow() {
+    let mut lists = Lists::with(panel::envelope_len(16_000, 320), 16_000, 320);
+    for (rate, ceiling) in [(12_000, 320), (48_000, 320), (16_000, 7), (16_000, 321)] {
+        assert_eq!(Panel::new(lists.memory(), rate, ceiling).unwrap_err(), Refusal::OutsideTable);
+    }
+    assert_eq!(Panel::new(lists.memory(), 16_000, 319).unwrap_err(), Refusal::WrongLength);
+    assert_eq!(Scan::new(lists.memory(), 16_000, 320).unwrap_err(), Refusal::WrongLength);
+    assert!(Panel::new(lists.memory(), 8_000, 320).is_ok());
 }
 
 #[test]

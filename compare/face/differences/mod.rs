@@ -2,6 +2,7 @@
 
 mod fines;
 mod pairs;
+mod panels;
 mod rings;
 mod scans;
 mod told;
@@ -18,6 +19,7 @@ pub fn run() -> bool {
         rings::all(),
         trackers::all(),
         scans::all(),
+        panels::all(),
         pairs::all(),
         fines::all(),
     ];

@@ -53,6 +53,21 @@ pub(crate) struct Scan<K: Kind> {
     last: u64,
 }
 
+impl<K: Kind> Scan<K> {
+    /// A new scan, and its original.
+    pub fn made(rate: u32, ceiling: u32) -> (Scan<K>, World) {
+        let world = World::of(K::PROFILE, rate, ceiling);
+        let scan = Scan {
+            original: beside::made_as(&world.seen()),
+            setting: (rate as u64, ceiling as u64),
+            behind: false,
+            index: 0,
+            last: 0,
+        };
+        (scan, world)
+    }
+}
+
 impl<K: Kind> Subject for Scan<K> {
     type World = World;
     const DUE: fn(&World, &Call) -> Judged = referee::due;
@@ -103,15 +118,7 @@ impl<K: Kind> Walker for Scan<K> {
 
     fn new() -> (Scan<K>, World) {
         let (rate, ceiling) = K::PROFILE.least;
-        let world = World::of(K::PROFILE, rate, ceiling);
-        let scan = Scan {
-            original: beside::made_as(&world.seen()),
-            setting: (rate as u64, ceiling as u64),
-            behind: false,
-            index: 0,
-            last: 0,
-        };
-        (scan, world)
+        Scan::made(rate, ceiling)
     }
 
     fn begin(&mut self, random: &mut Random) -> World {

@@ -187,5 +187,6 @@ macro_rules! originals {
         }
     )* };
 }
+pub(crate) use originals;
 
 originals!(coarse);

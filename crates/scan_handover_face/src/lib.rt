@@ -24,7 +24,7 @@ fn judge(state: &[u64], values_fit: bool) -> u32
     )
 }
 
-fn tell_run(values: &mut [u64], answer: RunTaking) -> u32
+pub fn tell_run(values: &mut [u64], answer: RunTaking) -> u32
     requires { ⌜ length (now values) ≡ oneValue ⌝ }
     ensures number { λ r. ⌜ r ≡ number (runTold answer) ⌝ }
     ensures values { λ r. ⌜ now (values .exit) ≡ given (now (values .entry)) (runTold answer) ⌝ }

@@ -152,7 +152,7 @@ fn score(
 }
 
 // With any slack of the envelope.
-fn observe_with(
+pub fn observe_with(
     slack: u32,
     scan: Scan,
     envelope: &[f32],

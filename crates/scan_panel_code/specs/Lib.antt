@@ -1,0 +1,3 @@
+-- Request j, of the code.
+pub mod Happened
+pub mod Statement

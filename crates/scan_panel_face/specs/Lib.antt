@@ -1,0 +1,2 @@
+-- The wall panel's profile, on the words that a host lends.
+pub mod Calls
