@@ -12,7 +12,7 @@ use Rattle.log_lines.specs.declared.Line.{Line}
 use Rattle.log_lines.specs.declared.Line.the-variants.{Replay, Frame, Cycle, Refused, End, BadHeader, BadEvent, BadTotals}
 use Rattle.log_lines.proofs.Theorems.{no-newline}
 use Rattle.log_text.specs.Text.{newline, empty, plain, linesOf, joined, AllPlain, NoneEmpty}
-use Rattle.log_text.specs.Apart.{Side, Same, At, apart, FirstWrong}
+use Rattle.log_text.specs.Apart.{Side, Same, At, firstApart, FirstWrong}
 use Rattle.log_text.proofs.Text.{lines-exactly}
 use Rattle.log_text.proofs.Apart.{same-exactly}
 use Rattle.log_text.proofs.Apart as lists

@@ -13,7 +13,7 @@ use Rattle.log_lines.specs.Lines.{textOf}
 use Rattle.log_lines.specs.declared.Line.{Line}
 use Rattle.log_lines.proofs.Answers.{line-short}
 use Rattle.log_text.specs.Text.{sameText, splitInto, linesOf}
-use Rattle.log_text.specs.Apart.{Side, Nothing, There, Apart, Same, At, apart, front}
+use Rattle.log_text.specs.Apart.{Side, Nothing, There, Apart, Same, At, firstApart, front}
 use Rattle.log_text.specs.Cut.{longest, firstNewline, cutAt, cutOf, Behind, Tells}
 use Rattle.log_text.specs.declared.Piece.{Piece}
 use Rattle.log_text.specs.declared.Piece.the-variants as piece
@@ -63,44 +63,44 @@ module _ (hand more : List ℕ) (ended : Bool) (b : Behind ended more) (k : ℕ)
 
   -- the lines are the same here, and the rest is to be compared
   module _ (l : Line) (ls : List (List ℕ)) where
-    same-here : (x : List ℕ) (xs : List (List ℕ)) → lines ≡ x ∷ xs → sameText x (textOf l) ≡ true → apart k lines (textOf l ∷ ls) ≡ apart (k + 1) xs ls
-    unfolding apart
-    same-here x xs e s = ap (λ (z : List (List ℕ)). apart k z (textOf l ∷ ls)) e ∙ pick-true _ _ _ s
+    same-here : (x : List ℕ) (xs : List (List ℕ)) → lines ≡ x ∷ xs → sameText x (textOf l) ≡ true → firstApart k lines (textOf l ∷ ls) ≡ firstApart (k + 1) xs ls
+    unfolding firstApart
+    same-here x xs e s = ap (λ (z : List (List ℕ)). firstApart k z (textOf l ∷ ls)) e ∙ pick-true _ _ _ s
 
-    differ-here : (x : List ℕ) (xs : List (List ℕ)) → lines ≡ x ∷ xs → sameText x (textOf l) ≡ false → apart k lines (textOf l ∷ ls) ≡ At k (front lines) (There (textOf l))
-    unfolding apart
-    differ-here x xs e s = subst (λ (z : List (List ℕ)). apart k z (textOf l ∷ ls) ≡ At k (front z) (There (textOf l))) (sym e) (pick-false _ _ _ s)
+    differ-here : (x : List ℕ) (xs : List (List ℕ)) → lines ≡ x ∷ xs → sameText x (textOf l) ≡ false → firstApart k lines (textOf l ∷ ls) ≡ At k (front lines) (There (textOf l))
+    unfolding firstApart
+    differ-here x xs e s = subst (λ (z : List (List ℕ)). firstApart k z (textOf l ∷ ls) ≡ At k (front z) (There (textOf l))) (sym e) (pick-false _ _ _ s)
 
-    right-by : (n : ℕ) (p : Piece) → cutOf hand ended ≡ p → standing (due.Line l) hand p ≡ Right n → apart k lines (textOf l ∷ ls) ≡ apart (k + 1) (linesOf (drop n hand ++ more)) ls
+    right-by : (n : ℕ) (p : Piece) → cutOf hand ended ≡ p → standing (due.Line l) hand p ≡ Right n → firstApart k lines (textOf l ∷ ls) ≡ firstApart (k + 1) (linesOf (drop n hand ++ more)) ls
     right-by n (piece.Line m) c e =
-        pick-case (λ (s : Stands). s ≡ Right n → apart k lines (textOf l ∷ ls) ≡ apart (k + 1) (linesOf (drop n hand ++ more)) ls) (sameText (take m hand) (textOf l)) _ _
+        pick-case (λ (s : Stands). s ≡ Right n → firstApart k lines (textOf l ∷ ls) ≡ firstApart (k + 1) (linesOf (drop n hand ++ more)) ls) (sameText (take m hand) (textOf l)) _ _
         (λ t e. let size : m + 1 ≡ n = cc in
         let next : suc m ≡ n = omega (arith, size) in
-        same-here (take m hand) (linesOf (drop (suc m) hand ++ more)) (told (piece.Line m) c) t ∙ ap (λ (j : ℕ). apart (k + 1) (linesOf (drop j hand ++ more)) ls) next)
+        same-here (take m hand) (linesOf (drop (suc m) hand ++ more)) (told (piece.Line m) c) t ∙ ap (λ (j : ℕ). firstApart (k + 1) (linesOf (drop j hand ++ more)) ls) next)
         (λ t e. clash (cc))
         e
     right-by n (piece.Last m) c e =
-        pick-case (λ (s : Stands). s ≡ Right n → apart k lines (textOf l ∷ ls) ≡ apart (k + 1) (linesOf (drop n hand ++ more)) ls) (sameText (take m hand) (textOf l)) _ _
+        pick-case (λ (s : Stands). s ≡ Right n → firstApart k lines (textOf l ∷ ls) ≡ firstApart (k + 1) (linesOf (drop n hand ++ more)) ls) (sameText (take m hand) (textOf l)) _ _
         (λ t e. let size : m ≡ n = cc in
         let is = told (piece.Last m) c in
         let whole : take m hand ≡ hand = ap (λ (j : ℕ). take j hand) (is .1) ∙ take-length hand in
         let nothing : drop n hand ++ more ≡ [] = ap (λ (j : ℕ). drop j hand ++ more) (sym size ∙ is .1) ∙ ap (λ (z : List ℕ). z ++ more) (drop-length hand) ∙ last-all hand more ended m b c in
-        same-here hand [] (is .0) (ap (λ (z : List ℕ). sameText z (textOf l)) (sym whole) ∙ t) ∙ ap (λ (z : List (List ℕ)). apart (k + 1) z ls) (sym (ap linesOf nothing ∙ no-lines)))
+        same-here hand [] (is .0) (ap (λ (z : List ℕ). sameText z (textOf l)) (sym whole) ∙ t) ∙ ap (λ (z : List (List ℕ)). firstApart (k + 1) z ls) (sym (ap linesOf nothing ∙ no-lines)))
         (λ t e. clash (cc))
         e
     right-by n piece.Long c e = clash (cc)
     right-by n piece.Wants c e = clash (cc)
     right-by n piece.Over c e = clash (cc)
 
-    wrong-by : (p : Piece) → cutOf hand ended ≡ p → standing (due.Line l) hand p ≡ Wrong → apart k lines (textOf l ∷ ls) ≡ At k (front lines) (There (textOf l))
-    unfolding apart
+    wrong-by : (p : Piece) → cutOf hand ended ≡ p → standing (due.Line l) hand p ≡ Wrong → firstApart k lines (textOf l ∷ ls) ≡ At k (front lines) (There (textOf l))
+    unfolding firstApart
     wrong-by (piece.Line m) c e =
-        pick-case (λ (s : Stands). s ≡ Wrong → apart k lines (textOf l ∷ ls) ≡ At k (front lines) (There (textOf l))) (sameText (take m hand) (textOf l)) _ _
+        pick-case (λ (s : Stands). s ≡ Wrong → firstApart k lines (textOf l ∷ ls) ≡ At k (front lines) (There (textOf l))) (sameText (take m hand) (textOf l)) _ _
         (λ t e. clash (cc))
         (λ t e. differ-here (take m hand) (linesOf (drop (suc m) hand ++ more)) (told (piece.Line m) c) t)
         e
     wrong-by (piece.Last m) c e =
-        pick-case (λ (s : Stands). s ≡ Wrong → apart k lines (textOf l ∷ ls) ≡ At k (front lines) (There (textOf l))) (sameText (take m hand) (textOf l)) _ _
+        pick-case (λ (s : Stands). s ≡ Wrong → firstApart k lines (textOf l ∷ ls) ≡ At k (front lines) (There (textOf l))) (sameText (take m hand) (textOf l)) _ _
         (λ t e. clash (cc))
         (λ t e. let is = told (piece.Last m) c in
         let whole : take m hand ≡ hand = ap (λ (j : ℕ). take j hand) (is .1) ∙ take-length hand in
@@ -108,40 +108,40 @@ module _ (hand more : List ℕ) (ended : Bool) (b : Behind ended more) (k : ℕ)
         e
     wrong-by piece.Long c e = let is = told piece.Long c in differ-here (is .line) (is .others) (is .parts) (longer-differs (is .line) l (is .long))
     wrong-by piece.Wants c e = clash (cc)
-    wrong-by piece.Over c e = subst (λ (z : List (List ℕ)). apart k z (textOf l ∷ ls) ≡ At k (front z) (There (textOf l))) (sym (told piece.Over c)) refl
+    wrong-by piece.Over c e = subst (λ (z : List (List ℕ)). firstApart k z (textOf l ∷ ls) ≡ At k (front z) (There (textOf l))) (sym (told piece.Over c)) refl
 
-    pub right-step : (n : ℕ) → held (due.Line l) hand ended ≡ Right n → apart k lines (textOf l ∷ ls) ≡ apart (k + 1) (linesOf (drop n hand ++ more)) ls
+    pub right-step : (n : ℕ) → held (due.Line l) hand ended ≡ Right n → firstApart k lines (textOf l ∷ ls) ≡ firstApart (k + 1) (linesOf (drop n hand ++ more)) ls
     unfolding held
     right-step n e = right-by n (cutOf hand ended) refl e
 
-    pub wrong-step : held (due.Line l) hand ended ≡ Wrong → apart k lines (textOf l ∷ ls) ≡ At k (front lines) (There (textOf l))
+    pub wrong-step : held (due.Line l) hand ended ≡ Wrong → firstApart k lines (textOf l ∷ ls) ≡ At k (front lines) (There (textOf l))
     unfolding held
     wrong-step e = wrong-by (cutOf hand ended) refl e
 
   -- nothing should come any more
-  more-here : (x : List ℕ) (xs : List (List ℕ)) → lines ≡ x ∷ xs → apart k lines [] ≡ At k (front lines) Nothing
-  unfolding apart
-  more-here x xs e = subst (λ (z : List (List ℕ)). apart k z [] ≡ At k (front z) Nothing) (sym e) refl
+  more-here : (x : List ℕ) (xs : List (List ℕ)) → lines ≡ x ∷ xs → firstApart k lines [] ≡ At k (front lines) Nothing
+  unfolding firstApart
+  more-here x xs e = subst (λ (z : List (List ℕ)). firstApart k z [] ≡ At k (front z) Nothing) (sym e) refl
 
-  extra-by : (p : Piece) → cutOf hand ended ≡ p → standing due.Nothing hand p ≡ Wrong → apart k lines [] ≡ At k (front lines) Nothing
+  extra-by : (p : Piece) → cutOf hand ended ≡ p → standing due.Nothing hand p ≡ Wrong → firstApart k lines [] ≡ At k (front lines) Nothing
   extra-by (piece.Line m) c e = more-here (take m hand) (linesOf (drop (suc m) hand ++ more)) (told (piece.Line m) c)
   extra-by (piece.Last m) c e = more-here hand [] (told (piece.Last m) c .0)
   extra-by piece.Long c e = let is = told piece.Long c in more-here (is .line) (is .others) (is .parts)
   extra-by piece.Wants c e = clash (cc)
   extra-by piece.Over c e = clash (cc)
 
-  over-by : (p : Piece) → cutOf hand ended ≡ p → standing due.Nothing hand p ≡ Over → apart k lines [] ≡ Same
-  unfolding apart
+  over-by : (p : Piece) → cutOf hand ended ≡ p → standing due.Nothing hand p ≡ Over → firstApart k lines [] ≡ Same
+  unfolding firstApart
   over-by (piece.Line m) c e = clash (cc)
   over-by (piece.Last m) c e = clash (cc)
   over-by piece.Long c e = clash (cc)
   over-by piece.Wants c e = clash (cc)
-  over-by piece.Over c e = ap (λ (z : List (List ℕ)). apart k z []) (told piece.Over c)
+  over-by piece.Over c e = ap (λ (z : List (List ℕ)). firstApart k z []) (told piece.Over c)
 
-  pub extra-step : held due.Nothing hand ended ≡ Wrong → apart k lines [] ≡ At k (front lines) Nothing
+  pub extra-step : held due.Nothing hand ended ≡ Wrong → firstApart k lines [] ≡ At k (front lines) Nothing
   unfolding held
   extra-step e = extra-by (cutOf hand ended) refl e
 
-  pub over-step : held due.Nothing hand ended ≡ Over → apart k lines [] ≡ Same
+  pub over-step : held due.Nothing hand ended ≡ Over → firstApart k lines [] ≡ Same
   unfolding held
   over-step e = over-by (cutOf hand ended) refl e

@@ -9,7 +9,7 @@ use Rattle.log_lines.specs.Lines.{textOf}
 use Rattle.log_lines.specs.declared.Line.{Line}
 use Rattle.log_lines.specs.declared.Line.the-variants as line
 use Rattle.log_text.specs.Text.{linesOf}
-use Rattle.log_text.specs.Apart.{Side, Nothing, There, Apart, Same, At, apart, front}
+use Rattle.log_text.specs.Apart.{Side, Nothing, There, Apart, Same, At, firstApart, front}
 use Rattle.log_text.specs.Cut.{Behind}
 use Rattle.log_hold.specs.Held.{held}
 use Rattle.log_hold.specs.declared.Due.the-variants as due
@@ -49,27 +49,27 @@ behind log p f = by (p .ended) refl
 -- ---- a line of the log, as a host has its bytes
 
 module _ (log : List ℕ) (p : Piece) (f : Front log p) (k : ℕ) where
-  right-here : (l : Line) (ls : List (List ℕ)) (n : ℕ) → held (due.Line l) (p .bytes) (p .ended) ≡ Right n → apart k (linesOf log) (textOf l ∷ ls) ≡ apart (k + 1) (linesOf (drop n (p .bytes) ++ f .later)) ls
-  right-here l ls n e = ap (λ (z : List ℕ). apart k (linesOf z) (textOf l ∷ ls)) (f .joins) ∙ right-step (p .bytes) (f .later) (p .ended) (behind log p f) k l ls n e
+  right-here : (l : Line) (ls : List (List ℕ)) (n : ℕ) → held (due.Line l) (p .bytes) (p .ended) ≡ Right n → firstApart k (linesOf log) (textOf l ∷ ls) ≡ firstApart (k + 1) (linesOf (drop n (p .bytes) ++ f .later)) ls
+  right-here l ls n e = ap (λ (z : List ℕ). firstApart k (linesOf z) (textOf l ∷ ls)) (f .joins) ∙ right-step (p .bytes) (f .later) (p .ended) (behind log p f) k l ls n e
 
-  wrong-here : (l : Line) (ls : List (List ℕ)) → held (due.Line l) (p .bytes) (p .ended) ≡ Wrong → wrongAt k log (There (textOf l)) ≡ apart k (linesOf log) (textOf l ∷ ls)
+  wrong-here : (l : Line) (ls : List (List ℕ)) → held (due.Line l) (p .bytes) (p .ended) ≡ Wrong → wrongAt k log (There (textOf l)) ≡ firstApart k (linesOf log) (textOf l ∷ ls)
   wrong-here l ls e =
-      subst (λ (z : List ℕ). wrongAt k z (There (textOf l)) ≡ apart k (linesOf z) (textOf l ∷ ls)) (sym (f .joins))
+      subst (λ (z : List ℕ). wrongAt k z (There (textOf l)) ≡ firstApart k (linesOf z) (textOf l ∷ ls)) (sym (f .joins))
       (sym (wrong-step (p .bytes) (f .later) (p .ended) (behind log p f) k l ls e))
 
-  extra-here : held due.Nothing (p .bytes) (p .ended) ≡ Wrong → wrongAt k log Nothing ≡ apart k (linesOf log) []
+  extra-here : held due.Nothing (p .bytes) (p .ended) ≡ Wrong → wrongAt k log Nothing ≡ firstApart k (linesOf log) []
   extra-here e =
-      subst (λ (z : List ℕ). wrongAt k z Nothing ≡ apart k (linesOf z) []) (sym (f .joins))
+      subst (λ (z : List ℕ). wrongAt k z Nothing ≡ firstApart k (linesOf z) []) (sym (f .joins))
       (sym (extra-step (p .bytes) (f .later) (p .ended) (behind log p f) k e))
 
-  over-here : held due.Nothing (p .bytes) (p .ended) ≡ Over → Same ≡ apart k (linesOf log) []
+  over-here : held due.Nothing (p .bytes) (p .ended) ≡ Over → Same ≡ firstApart k (linesOf log) []
   over-here e =
-      subst (λ (z : List ℕ). Same ≡ apart k (linesOf z) []) (sym (f .joins))
+      subst (λ (z : List ℕ). Same ≡ firstApart k (linesOf z) []) (sym (f .joins))
       (sym (over-step (p .bytes) (f .later) (p .ended) (behind log p f) k e))
 
 -- ---- against lines that are known
 
-pub holds-apart : (k : ℕ) (ls : List Line) (log : List ℕ) (v : Apart) → Holds k ls log v → v ≡ apart k (linesOf log) (map textOf ls)
+pub holds-apart : (k : ℕ) (ls : List Line) (log : List ℕ) (v : Apart) → Holds k ls log v → v ≡ firstApart k (linesOf log) (map textOf ls)
 holds-apart k ls log v (host.right k₁ l ls₁ log₁ v₁ n p f e later) =
     holds-apart (k₁ + 1) ls₁ (drop n (p .bytes) ++ f .later) v₁ later ∙ sym (right-here log₁ p f k₁ l (map textOf ls₁) n e)
 holds-apart k ls log v (host.wrong k₁ l ls₁ log₁ p f e) = wrong-here log₁ p f k₁ l (map textOf ls₁) e
@@ -98,21 +98,21 @@ module _ (events far near : List ℕ) (h : Header) where
     over-none : c .gave .answer ≡ answer.Over → [] ≡ lines q b r
     over-none e = sym (subst (λ (x : Answer). Ends x after) e (call-law .ends)) ∙ answered answer.Over e
 
-  pub checking-apart : (q : Place) (b : Buffers) (r : Rest) (k : ℕ) (log : List ℕ) (v : Apart) → Checking h q b r k log v → StandsAt q r → v ≡ apart k (linesOf log) (map textOf (lines q b r))
+  pub checking-apart : (q : Place) (b : Buffers) (r : Rest) (k : ℕ) (log : List ℕ) (v : Apart) → Checking h q b r k log v → StandsAt q r → v ≡ firstApart k (linesOf log) (map textOf (lines q b r))
   checking-apart q b r k log v (host.wants q₁ b₁ r₁ k₁ log₁ v₁ i c e later) st =
       checking-apart (c .gave .place) (c .gave .buffers) (unused (c .gave .used) r₁) k₁ log₁ v₁ later (call-law q₁ b₁ r₁ c st .stands)
-      ∙ ap (λ (ls : List Line). apart k₁ (linesOf log₁) (map textOf ls)) (answered q₁ b₁ r₁ c st (answer.Wants i) e)
+      ∙ ap (λ (ls : List Line). firstApart k₁ (linesOf log₁) (map textOf ls)) (answered q₁ b₁ r₁ c st (answer.Wants i) e)
   checking-apart q b r k log v (host.right q₁ b₁ r₁ k₁ l log₁ v₁ n c p f e right later) st =
       checking-apart (c .gave .place) (c .gave .buffers) (unused (c .gave .used) r₁) (k₁ + 1) (drop n (p .bytes) ++ f .later) v₁ later (call-law q₁ b₁ r₁ c st .stands)
       ∙ sym (right-here log₁ p f k₁ l (map textOf (after q₁ b₁ r₁ c st)) n right)
-      ∙ ap (λ (ls : List Line). apart k₁ (linesOf log₁) (map textOf ls)) (answered q₁ b₁ r₁ c st (answer.Says l) e)
+      ∙ ap (λ (ls : List Line). firstApart k₁ (linesOf log₁) (map textOf ls)) (answered q₁ b₁ r₁ c st (answer.Says l) e)
   checking-apart q b r k log v (host.wrong q₁ b₁ r₁ k₁ l log₁ c p f e wrong) st =
       wrong-here log₁ p f k₁ l (map textOf (after q₁ b₁ r₁ c st)) wrong
-      ∙ ap (λ (ls : List Line). apart k₁ (linesOf log₁) (map textOf ls)) (answered q₁ b₁ r₁ c st (answer.Says l) e)
+      ∙ ap (λ (ls : List Line). firstApart k₁ (linesOf log₁) (map textOf ls)) (answered q₁ b₁ r₁ c st (answer.Says l) e)
   checking-apart q b r k log v (host.extra q₁ b₁ r₁ k₁ log₁ c p f e extra) st =
-      extra-here log₁ p f k₁ extra ∙ ap (λ (ls : List Line). apart k₁ (linesOf log₁) (map textOf ls)) (over-none q₁ b₁ r₁ c st e)
+      extra-here log₁ p f k₁ extra ∙ ap (λ (ls : List Line). firstApart k₁ (linesOf log₁) (map textOf ls)) (over-none q₁ b₁ r₁ c st e)
   checking-apart q b r k log v (host.accepted q₁ b₁ r₁ k₁ log₁ c p f e over) st =
-      over-here log₁ p f k₁ over ∙ ap (λ (ls : List Line). apart k₁ (linesOf log₁) (map textOf ls)) (over-none q₁ b₁ r₁ c st e)
+      over-here log₁ p f k₁ over ∙ ap (λ (ls : List Line). firstApart k₁ (linesOf log₁) (map textOf ls)) (over-none q₁ b₁ r₁ c st e)
 
 -- what is to come at the start is the log
 start-log : (events far near : List ℕ) (h : Header) (lent cleared : Buffers) (s : Session) → opened events ≡ start.Opened h → beginning (begun.Ready s) cleared ≡ begins h lent
@@ -128,8 +128,8 @@ pub checked-is : (events far near log : List ℕ) (v : Apart) → Checks events 
 unfolding checked
 checked-is events far near log v (host.unopened v₁ first f w q holds) =
     holds-apart 1 (line.BadHeader ∷ []) log v₁ holds
-    ∙ ap (λ (ls : List Line). apart 1 (linesOf log) (map textOf ls)) (streamed-log events far near (line.BadHeader ∷ []) (hosts.unopened first f w q))
+    ∙ ap (λ (ls : List Line). firstApart 1 (linesOf log) (map textOf ls)) (streamed-log events far near (line.BadHeader ∷ []) (hosts.unopened first f w q))
 checked-is events far near log v (host.checks v₁ first h lent cleared s f w q ready checking) =
     let q₁ = header-handed events first f w ∙ q in
     checking-apart events far near h (opens s) cleared (rest (drop 24 events) far near) 1 log v₁ checking (ready-stands events far near h lent cleared s q₁ ready)
-    ∙ ap (λ (ls : List Line). apart 1 (linesOf log) (map textOf ls)) (start-log events far near h lent cleared s q₁ ready)
+    ∙ ap (λ (ls : List Line). firstApart 1 (linesOf log) (map textOf ls)) (start-log events far near h lent cleared s q₁ ready)

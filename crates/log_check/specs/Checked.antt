@@ -4,8 +4,8 @@ use Prim.Native.Nat.{ℕ}
 use mathlib.Core.List.{List, map}
 use Rattle.log_lines.specs.Lines.{textOf}
 use Rattle.log_text.specs.Text.{linesOf}
-use Rattle.log_text.specs.Apart.{Apart, apart}
+use Rattle.log_text.specs.Apart.{Apart, firstApart}
 use Rattle.replay.specs.Log.{logOf}
 
 unfoldable pub checked : List ℕ → List ℕ → List ℕ → List ℕ → Apart
-checked events far near log = apart 1 (linesOf log) (map textOf (logOf events far near))
+checked events far near log = firstApart 1 (linesOf log) (map textOf (logOf events far near))

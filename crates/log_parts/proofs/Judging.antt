@@ -17,7 +17,7 @@ use Rattle.log_lines.specs.declared.Read.the-variants.{Known, NotALogLine}
 use Rattle.log_lines.proofs.Answers.{line-short}
 use Rattle.log_text.specs.Cut.{longest}
 use Rattle.log_parts.specs.Sorts.{sortOf, isOf, numberOf}
-use Rattle.log_parts.specs.Named.{lineIn, Named, NotALog, before, rises, nextLeast, namedAs, namedFrom}
+use Rattle.log_parts.specs.Named.{lineIn, Named, NotALog, inFront, rises, nextLeast, namedAs, namedFrom}
 use Rattle.log_parts.specs.Judged.{leastAfter, judgedLine, judgedRead, judgedText, goesAs}
 use Rattle.log_parts.specs.declared.Last.{Last}
 use Rattle.log_parts.specs.declared.Last.the-variants.{At}
@@ -46,12 +46,12 @@ module _ (place : ℕ) (t : List ℕ) (f c : Last) (behind : ℕ → ℕ → Nam
   step-line (Replay r d) = refl
   step-line (Frame n w) = each (leb (leastAfter f) n)
     where
-      each : (b : Bool) → pick (both b true) (before (Frame n w) (behind (n + 1) (leastAfter c))) (NotALog place t) ≡ goesAs place t (pick b (Good (Frame n w) (At n) c) Strange) behind
+      each : (b : Bool) → pick (both b true) (inFront (Frame n w) (behind (n + 1) (leastAfter c))) (NotALog place t) ≡ goesAs place t (pick b (Good (Frame n w) (At n) c) Strange) behind
       each true = refl
       each false = refl
   step-line (Cycle n v) = each (leb (leastAfter c) n)
     where
-      each : (b : Bool) → pick b (before (Cycle n v) (behind (leastAfter f) (n + 1))) (NotALog place t) ≡ goesAs place t (pick b (Good (Cycle n v) f (At n)) Strange) behind
+      each : (b : Bool) → pick b (inFront (Cycle n v) (behind (leastAfter f) (n + 1))) (NotALog place t) ≡ goesAs place t (pick b (Good (Cycle n v) f (At n)) Strange) behind
       each true = refl
       each false = refl
   step-line (Refused e n) = refl

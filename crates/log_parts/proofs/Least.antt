@@ -10,7 +10,7 @@ use borrow.Author.Tests.{eqb-true, eqb-false, leb-true, leb-false}
 use Rattle.answers.specs.Pick.{pick-true, pick-false, pick-all, pick-case}
 use Rattle.log_lines.specs.declared.Line.{Line}
 use Rattle.log_parts.specs.Sorts.{numberOf, sameLine, Rising}
-use Rattle.log_parts.specs.Numbers.{lineAt, absent, differsAt, Found, NoNumber, Number, lesser, leastOf, leastDiffering, firstAt, firstByNumber, Passes, Reaches, Least}
+use Rattle.log_parts.specs.Numbers.{lineAt, absent, differsAt, Found, NoNumber, Number, lesser, leastOf, leastDiffering, firstAt, firstByNumber, PassesTest, Reaches, Least}
 use Rattle.log_parts.specs.declared.Side.{Side}
 use Rattle.log_parts.specs.declared.Side.the-variants.{Nothing, There}
 use Rattle.log_parts.specs.declared.First.the-variants.{Differ}
@@ -18,7 +18,7 @@ use Rattle.log_parts.proofs.Numbers.{at-head, at-other, at-below, first
 
 -- ---- the least number that passes
 
-lesser-passes : (test : ℕ → Bool) (n : ℕ) (r : Found) → test n ≡ true → Passes test r → Passes test (lesser n r)
+lesser-passes : (test : ℕ → Bool) (n : ℕ) (r : Found) → test n ≡ true → PassesTest test r → PassesTest test (lesser n r)
 lesser-passes test n NoNumber e p = e
 lesser-passes test n (Number m) e p = pick-all (λ (k : ℕ). test k ≡ true) (leb n m) n m e p
 
@@ -30,11 +30,11 @@ lesser-reaches : (m n : ℕ) (r : Found) → Reaches m r → Reaches m (lesser n
 lesser-reaches m n NoNumber h = absurd h
 lesser-reaches m n (Number k) h = pick-case (λ (j : ℕ). j ≤ m) (leb n k) n k (λ e. omega (arith, leb-true n k e, h)) (λ e. h)
 
-found-passes : (test : ℕ → Bool) (ls : List Line) → Passes test (leastOf test ls)
+found-passes : (test : ℕ → Bool) (ls : List Line) → PassesTest test (leastOf test ls)
 unfolding leastOf
 found-passes test [] = record {}
 found-passes test (l ∷ ls) =
-    pick-case (Passes test) (test (numberOf l)) _ _ (λ e. lesser-passes test (numberOf l) (leastOf test ls) e (found-passes test ls)) (λ e. found-passes test ls)
+    pick-case (PassesTest test) (test (numberOf l)) _ _ (λ e. lesser-passes test (numberOf l) (leastOf test ls) e (found-passes test ls)) (λ e. found-passes test ls)
 
 -- a number of the list that passes is at least the one found
 found-least : (test : ℕ → Bool) (ls : List Line) (m : ℕ) → test m ≡ true → absent (lineAt m ls) ≡ false → Reaches m (leastOf test ls)
@@ -91,7 +91,7 @@ least-one test (Number m) (Number n) p q = let e : m ≡ n = omega (arith, p .le
 pub least-along : (f g : ℕ → Bool) (r : Found) → ((n : ℕ) → f n ≡ g n) → Least f r → Least g r
 least-along f g r h p = record { passes = each r (p .passes); least = λ m t. p .least m (h m ∙ t) }
   where
-    each : (r : Found) → Passes f r → Passes g r
+    each : (r : Found) → PassesTest f r → PassesTest g r
     each NoNumber p = record {}
     each (Number n) p = sym (h n) ∙ p
 
@@ -157,7 +157,7 @@ module _ (x y : Line) (a b : List Line) (same : numberOf x ≡ numberOf y) (ra :
       first-is (x ∷ a) (y ∷ b) (leastDiffering a b) (least-along (differsAt a b) (differsAt (x ∷ a) (y ∷ b)) (leastDiffering a b) (pair-same s) (least-differing a b))
       ∙ each (leastDiffering a b) (least-differing a b .passes)
     where
-      each : (r : Found) → Passes (differsAt a b) r → firstAt (x ∷ a) (y ∷ b) r ≡ firstAt a b r
+      each : (r : Found) → PassesTest (differsAt a b) r → firstAt (x ∷ a) (y ∷ b) r ≡ firstAt a b r
       each NoNumber p = refl
       each (Number n) p =
           let off : numberOf x ≡ n → ⊥ = λ e. true≢false (sym p ∙ nowhere a b n (at-below (numberOf x + 1) a n ra (omega (arith, e))) (at-below (numberOf x + 1) b n rb (omega (arith, e)))) in

@@ -22,7 +22,7 @@ use Rattle.log_text.proofs.Text.{same-texts, text-itself}
 use Rattle.log_parts.specs.Sorts.{isOf, ofSort, numberOf, Rising, AllRanged}
 use Rattle.log_parts.specs.declared.Sort.{Sort}
 use Rattle.log_parts.specs.declared.Sort.the-variants.{Frames, Cycles}
-use Rattle.log_parts.specs.Named.{lineIn, Named, Lines, NotALog, before, rises, nextLeast, goesOn, namedAs, namedFrom, named, GoodFrom, GoodLog, FirstStrange}
+use Rattle.log_parts.specs.Named.{lineIn, Named, Lines, NotALog, inFront, rises, nextLeast, goesOn, namedAs, namedFrom, named, GoodFrom, GoodLog, FirstStrange}
 use Rattle.log_parts.proofs.Merges.{clash}
 
 -- ---- a text that is read is the line's
@@ -85,7 +85,7 @@ unfolding ofSort
 no-lines f c = record { texts = refl; ranged = record {}; frames-rise = record {}; cycles-rise = record {} }
 
 -- a line in front of lines
-in-front : (l : Line) (n : Named) (ls : List Line) → before l n ≡ Lines ls → (rest : List Line) × (n ≡ Lines rest) × (l ∷ rest ≡ ls)
+in-front : (l : Line) (n : Named) (ls : List Line) → inFront l n ≡ Lines ls → (rest : List Line) × (n ≡ Lines rest) × (l ∷ rest ≡ ls)
 in-front l (Lines rest) ls e = (rest, refl, cc)
 in-front l (NotALog k t) ls e = clash (cc)
 
@@ -109,7 +109,7 @@ good-named place f c (t ∷ ts) ls e = good-behind place f c t ts (lineIn t) ref
 
 -- a line that is read and goes on
 named-on : (place f c : ℕ) (t : List ℕ) (l : Line) (ts : List (List ℕ)) → lineIn t ≡ Known l → goesOn f c l ≡ true
-    → namedFrom place f c (t ∷ ts) ≡ before l (namedFrom (place + 1) (nextLeast Frames f l) (nextLeast Cycles c l) ts)
+    → namedFrom place f c (t ∷ ts) ≡ inFront l (namedFrom (place + 1) (nextLeast Frames f l) (nextLeast Cycles c l) ts)
 unfolding namedFrom namedAs
 named-on place f c t l ts e h = rw (e, namedAs) (pick-true _ _ _ h)
 
@@ -120,7 +120,7 @@ named-back place f c (l ∷ ls) r p q =
     let u = rising-off Frames f l ls p in
     let v = rising-off Cycles c l ls q in
     named-on place f c (textOf l) l (map textOf ls) (read-text l (r .0)) (pick-true _ _ _ (u .0) ∙ v .0)
-    ∙ ap (before l) (named-back (place + 1) _ _ ls (r .1) (u .1) (v .1))
+    ∙ ap (inFront l) (named-back (place + 1) _ _ ls (r .1) (u .1) (v .1))
 
 named-whole : (place f c : ℕ) (ts : List (List ℕ)) (ls : List Line) → GoodFrom f c ts ls → namedFrom place f c ts ≡ Lines ls
 named-whole place f c ts ls g = rw (g .texts) (named-back place f c ls (g .ranged) (g .frames-rise) (g .cycles-rise))
@@ -148,7 +148,7 @@ stops-here f c from u ts place t e s =
     let same : u ≡ t = cc in
     record { good = []; rest = ts; parts = rw same; there = omega (arith, here); lines = []; is-good = no-lines f c; stops = subst (λ (v : List ℕ). namedFrom from f c (v ∷ []) ≡ NotALog place t) same (s ∙ e) }
 
-behind-front : (l : Line) (n : Named) (place : ℕ) (t : List ℕ) → before l n ≡ NotALog place t → n ≡ NotALog place t
+behind-front : (l : Line) (n : Named) (place : ℕ) (t : List ℕ) → inFront l n ≡ NotALog place t → n ≡ NotALog place t
 behind-front l (Lines rest) place t e = clash (cc)
 behind-front l (NotALog k u) place t e = e
 
@@ -166,7 +166,7 @@ stops-behind from f c u ts (Known l) i go place t e =
       there = omega (arith, s .there);
       lines = l ∷ s .lines;
       is-good = good-on f c u l (s .good) (s .lines) i h (s .is-good);
-      stops = named-on from f c u l (s .good ++ t ∷ []) i h ∙ ap (before l) (s .stops);
+      stops = named-on from f c u l (s .good ++ t ∷ []) i h ∙ ap (inFront l) (s .stops);
     })
     (λ h e. stops-here f c from u ts place t e (rw (namedFrom, i, namedAs, h)))
     e

@@ -25,7 +25,7 @@ use Rattle.log_parts.proofs.Named.{named-exactly}
 -- ---- two logs are compared
 
 module _ (s t : List (List ℕ)) (a b : List Line) (good-s : GoodLog s a) (good-t : GoodLog t b) where
-  pub compares : parting s t ≡ compared a b (places.apart 1 s t)
+  pub compares : parting s t ≡ compared a b (places.firstApart 1 s t)
   unfolding parting
   compares = rw (named-exactly s a .1 good-s, named-exactly t b .1 good-t)
 
@@ -44,7 +44,7 @@ same-judged (Lines a) (Lines b) r e = (a, refl, same-places a b r e)
 pub same-exactly : (s t : List (List ℕ)) → (parting s t ≡ Same) ↔ ((a : List Line) × GoodLog s a × (s ≡ t))
 unfolding parting
 same-exactly s t = (
-  (λ e. let j = same-judged (named s) (named t) (places.apart 1 s t) e in
+  (λ e. let j = same-judged (named s) (named t) (places.firstApart 1 s t) e in
       (j .0, named-exactly s (j .0) .0 (j .1), placed.same-exactly 1 s t .0 (j .2))),
   λ h. subst (λ (u : List (List ℕ)). parting s u ≡ Same) (h .2) (compares s s (h .0) (h .0) (h .1) (h .1) ∙ ap (compared (h .0) (h .0)) (placed.same-exactly 1 s s .1 refl)),
 )
@@ -64,8 +64,8 @@ compared-unrefused a b (places.At k x y) = refl
 pub refused-exactly : (s t : List (List ℕ)) → (refusalOf (parting s t) ≡ none) ↔ ((a b : List Line) × GoodLog s a × GoodLog t b)
 unfolding parting
 refused-exactly s t = (
-  (λ e. let n = not-refused (named s) (named t) (places.apart 1 s t) e in (n .0, n .1, named-exactly s (n .0) .0 (n .2), named-exactly t (n .1) .0 (n .3))),
-  λ h. ap refusalOf (compares s t (h .0) (h .1) (h .2) (h .3)) ∙ compared-unrefused (h .0) (h .1) (places.apart 1 s t),
+  (λ e. let n = not-refused (named s) (named t) (places.firstApart 1 s t) e in (n .0, n .1, named-exactly s (n .0) .0 (n .2), named-exactly t (n .1) .0 (n .3))),
+  λ h. ap refusalOf (compares s t (h .0) (h .1) (h .2) (h .3)) ∙ compared-unrefused (h .0) (h .1) (places.firstApart 1 s t),
 )
 
 -- "Lines that are not log lines .. are named and the tool stops there": the first log's first such line, whatever stands in the second
@@ -165,7 +165,7 @@ module _ (s t : List (List ℕ)) (a b : List Line) (good-s : GoodLog s a) (good-
         count-turned 0 (ofSort Cycles a) (ofSort Cycles b) (good-s .cycles-rise) (good-t .cycles-rise),
       )
 
-  compared-turned : (r : places.Apart) → compared b a (places.turned r) ≡ turned (compared a b r)
+  compared-turned : (r : places.Apart) → compared b a (places.exchanged r) ≡ turned (compared a b r)
   compared-turned places.Same = refl
   compared-turned (places.At k x y) = ap Parts (report-turned k)
 
@@ -174,9 +174,9 @@ module _ (s t : List (List ℕ)) (a b : List Line) (good-s : GoodLog s a) (good-
   mirrored =
       compares t s b a good-t good-s
       ∙ ap (compared b a) (placed.apart-turned 1 s t)
-      ∙ compared-turned (places.apart 1 s t)
+      ∙ compared-turned (places.firstApart 1 s t)
       ∙ ap turned (sym (compares s t a b good-s good-t))
 
   -- logs that are not the same part: the report's place is the first where they differ
-  pub parts-at : (k : ℕ) (x y : places.Side) → places.apart 1 s t ≡ places.At k x y → (parting s t ≡ Parts (reportOf a b k)) × places.FirstWrong 1 s t k x y
+  pub parts-at : (k : ℕ) (x y : places.Side) → places.firstApart 1 s t ≡ places.At k x y → (parting s t ≡ Parts (reportOf a b k)) × places.FirstWrong 1 s t k x y
   parts-at k x y e = (compares s t a b good-s good-t ∙ ap (compared a b) e, placed.first-wrong 1 s t k x y e)

@@ -7,7 +7,7 @@ use Rattle.log_lines.specs.declared.Line.{Line}
 use Rattle.log_lines.specs.declared.Line.the-variants as line
 use Rattle.log_lines.specs.declared.Read.{Read}
 use Rattle.log_lines.specs.declared.Read.the-variants.{Known, NotALogLine}
-use Rattle.log_parts.specs.Named.{Named, NotALog, before, lineIn}
+use Rattle.log_parts.specs.Named.{Named, NotALog, inFront, lineIn}
 use Rattle.log_parts.specs.declared.Last.{Last}
 use Rattle.log_parts.specs.declared.Last.the-variants.{Nothing, At}
 use Rattle.log_parts.specs.declared.Judged.{Judged}
@@ -37,5 +37,5 @@ judgedText f c t = judgedRead f c (lineIn t)
 
 -- how a log goes on behind a text that was judged
 unfoldable pub goesAs : ℕ → List ℕ → Judged → (ℕ → ℕ → Named) → Named
-goesAs place t (Good l f c) behind = before l (behind (leastAfter f) (leastAfter c))
+goesAs place t (Good l f c) behind = inFront l (behind (leastAfter f) (leastAfter c))
 goesAs place t Strange behind = NotALog place t

@@ -26,9 +26,9 @@ pub data Named : Type 0 where
   NotALog : ℕ → List ℕ → Named
 
 -- a line in front of the others
-abbrev pub before : Line → Named → Named
-before l (Lines ls) = Lines (l ∷ ls)
-before l (NotALog k t) = NotALog k t
+abbrev pub inFront : Line → Named → Named
+inFront l (Lines ls) = Lines (l ∷ ls)
+inFront l (NotALog k t) = NotALog k t
 
 -- a line of the sort has a number of at least `least`; the next of it must be above that number
 unfoldable pub rises : Sort → ℕ → Line → Bool
@@ -44,7 +44,7 @@ goesOn frames cycles l = both (rises Frames frames l) (rises Cycles cycles l)
 unfoldable pub namedAs : ℕ → ℕ → ℕ → List ℕ → Read → (ℕ → ℕ → Named) → Named
 namedAs place frames cycles t NotALogLine behind = NotALog place t
 namedAs place frames cycles t (Known l) behind =
-    pick (goesOn frames cycles l) (before l (behind (nextLeast Frames frames l) (nextLeast Cycles cycles l))) (NotALog place t)
+    pick (goesOn frames cycles l) (inFront l (behind (nextLeast Frames frames l) (nextLeast Cycles cycles l))) (NotALog place t)
 
 -- the texts from that place on, where frames and cycles have at least these numbers
 unfoldable pub namedFrom : ℕ → ℕ → ℕ → List (List ℕ) → Named

@@ -71,14 +71,14 @@ firstByNumber a b = firstAt a b (leastDiffering a b)
 
 -- ---- the least as a statement: it passes, and every number that passes is at least it
 
-abbrev pub Passes : (ℕ → Bool) → Found → Type 0
-Passes test NoNumber = Unit {0}
-Passes test (Number n) = test n ≡ true
+abbrev pub PassesTest : (ℕ → Bool) → Found → Type 0
+PassesTest test NoNumber = Unit {0}
+PassesTest test (Number n) = test n ≡ true
 
 abbrev pub Reaches : ℕ → Found → Type 0
 Reaches m NoNumber = ⊥
 Reaches m (Number n) = n ≤ m
 
 pub record Least (test : ℕ → Bool) (r : Found) : Type 0 where
-  pub passes : Passes test r
+  pub passes : PassesTest test r
   pub least : (m : ℕ) → test m ≡ true → Reaches m r

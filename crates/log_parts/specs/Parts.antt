@@ -67,7 +67,7 @@ judged (Lines a) (Lines b) r = compared a b r
 
 -- of two logs, each the list of its lines
 unfoldable pub parting : List (List ℕ) → List (List ℕ) → Parted
-parting s t = judged (named s) (named t) (places.apart 1 s t)
+parting s t = judged (named s) (named t) (places.firstApart 1 s t)
 
 -- "Refusals: 8, not a log line."
 abbrev pub refusalOf : Parted → ℕ

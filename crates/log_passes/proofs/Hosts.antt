@@ -121,23 +121,23 @@ parted-is a b p na nb w = each w
     each : {p : Parted} → Hosted a b p → p ≡ shortened (parting (linesOf a) (linesOf b))
     each (first-strange k t w) =
         let s = stops (named (linesOf a)) k t (heard-is a (Stops k t) na w) in
-        ap (NotALogLine 1 k) (s .2) ∙ ap (λ (n : Named). shortened (judged n (named (linesOf b)) (places.apart 1 (linesOf a) (linesOf b)))) (sym (s .1))
+        ap (NotALogLine 1 k) (s .2) ∙ ap (λ (n : Named). shortened (judged n (named (linesOf b)) (places.firstApart 1 (linesOf a) (linesOf b)))) (sym (s .1))
     each (second-strange k t v w) =
         let f = fine (named (linesOf a)) (heard-is a Fine na v) in
         let s = stops (named (linesOf b)) k t (heard-is b (Stops k t) nb w) in
         ap (NotALogLine 2 k) (s .2)
-        ∙ ap (λ (n : Named). shortened (judged (Lines (f .0)) n (places.apart 1 (linesOf a) (linesOf b)))) (sym (s .1))
-        ∙ ap (λ (n : Named). shortened (judged n (named (linesOf b)) (places.apart 1 (linesOf a) (linesOf b)))) (sym (f .1))
+        ∙ ap (λ (n : Named). shortened (judged (Lines (f .0)) n (places.firstApart 1 (linesOf a) (linesOf b)))) (sym (s .1))
+        ∙ ap (λ (n : Named). shortened (judged n (named (linesOf b)) (places.firstApart 1 (linesOf a) (linesOf b)))) (sym (f .1))
     each (same v w o) =
         let f = fine (named (linesOf a)) (heard-is a Fine na v) in
         let g = fine (named (linesOf b)) (heard-is b Fine nb w) in
-        let e = equal (places.apart 1 (linesOf a) (linesOf b)) (orders 1 a b Equal o (omega (arith, na))) in
+        let e = equal (places.firstApart 1 (linesOf a) (linesOf b)) (orders 1 a b Equal o (omega (arith, na))) in
         ap shortened (sym (compares (linesOf a) (linesOf b) (f .0) (g .0) (named-exactly (linesOf a) (f .0) .0 (f .1)) (named-exactly (linesOf b) (g .0) .0 (g .1)) ∙ ap (compared (f .0) (g .0)) e))
     each (parts k h f c r l v w o ph pf pc pr pl) =
         let x = fine (named (linesOf a)) (heard-is a Fine na v) in
         let y = fine (named (linesOf b)) (heard-is b Fine nb w) in
         let ga = named-exactly (linesOf a) (x .0) .0 (x .1) in
         let gb = named-exactly (linesOf b) (y .0) .0 (y .1) in
-        let e = from (places.apart 1 (linesOf a) (linesOf b)) k (orders 1 a b (From k) o (omega (arith, na))) in
+        let e = from (places.firstApart 1 (linesOf a) (linesOf b)) k (orders 1 a b (From k) o (omega (arith, na))) in
         ap Parts (report-is a b (x .0) (y .0) ga gb na nb k h f c r l ph pf pc pr pl)
         ∙ ap shortened (sym (compares (linesOf a) (linesOf b) (x .0) (y .0) ga gb ∙ ap (compared (x .0) (y .0)) (e .2)))

@@ -10,7 +10,7 @@ use Rattle.answers.specs.Numbers.{nextLongCount}
 use Rattle.log_lines.specs.declared.Line.{Line}
 use Rattle.log_text.specs.Text.{linesOf}
 use Rattle.log_text.specs.Cut.{longest, Behind}
-use Rattle.log_parts.specs.Named.{Named, Lines, NotALog, before, namedFrom}
+use Rattle.log_parts.specs.Named.{Named, Lines, NotALog, inFront, namedFrom}
 use Rattle.log_parts.specs.Judged.{leastAfter, judgedText, judgedRead, goesAs}
 use Rattle.log_parts.specs.declared.Judged.{Judged}
 use Rattle.log_parts.specs.declared.Judged.the-variants as judged
@@ -31,7 +31,7 @@ use Rattle.log_passes.proofs.Hands.{Longer, Next, Took, took}
 abbrev left : Judging → List (List ℕ) → Heard
 left j ts = heard (namedFrom (j .place) (leastAfter (j .frames)) (leastAfter (j .cycles)) ts)
 
-heard-behind : (l : Line) (n : Named) → heard (before l n) ≡ heard n
+heard-behind : (l : Line) (n : Named) → heard (inFront l n) ≡ heard n
 heard-behind l (Lines ls) = refl
 heard-behind l (NotALog k t) = refl
 

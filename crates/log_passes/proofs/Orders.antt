@@ -11,7 +11,7 @@ use Rattle.log_text.specs.Apart as places
 use Rattle.log_text.specs.Text.{sameText, linesOf}
 use Rattle.log_text.specs.Cut.{Behind}
 use Rattle.log_passes.specs.Taking.{takenIn}
-use Rattle.log_passes.specs.Beside.{besideTexts, besideFirst, goesOn, besideOf, besideIn}
+use Rattle.log_passes.specs.Beside.{besideTexts, besideFirst, ifMore, besideOf, besideIn}
 use Rattle.log_passes.specs.Hosts.{Ordered, Equal, From, ordered, Orders, goes, same, apart}
 use Rattle.log_passes.specs.declared.taking.Taken.{Taken}
 use Rattle.log_passes.specs.declared.taking.Taken.the-variants as taken
@@ -22,7 +22,7 @@ use Rattle.log_passes.proofs.Hands.{Next, Took, took}
 
 -- where the texts that are left part
 abbrev left : ℕ → List ℕ → List ℕ → Ordered
-left place a b = ordered (places.apart place (linesOf a) (linesOf b))
+left place a b = ordered (places.firstApart place (linesOf a) (linesOf b))
 
 -- what an answer says of what is left
 abbrev SaysOf : ℕ → List ℕ → List ℕ → List ℕ → List ℕ → ℕ → Ask → Type 0
@@ -41,23 +41,23 @@ Says place h m i n b = SaysOf place h m i n (b .place) (b .ask)
 
 module _ (place : ℕ) (h m i n : List ℕ) (bound : place + 1 < 2 ^ 64) where
   texts : (k u l v : ℕ) → Next h m k u → Next i n l v → Says place h m i n (besideTexts place (take k h) u (take l i) v)
-  unfolding besideTexts places.apart
+  unfolding besideTexts places.firstApart
   texts k u l v p q =
       let up : nextLongCount place ≡ place + 1 = omega (arith, bound) in
-      let both : left place (h ++ m) (i ++ n) ≡ ordered (places.apart place (take k h ∷ linesOf (drop u h ++ m)) (take l i ∷ linesOf (drop v i ++ n))) = rw (p .lines, q .lines) in
+      let both : left place (h ++ m) (i ++ n) ≡ ordered (places.firstApart place (take k h ∷ linesOf (drop u h ++ m)) (take l i ∷ linesOf (drop v i ++ n))) = rw (p .lines, q .lines) in
       pick-case (Says place h m i n) (sameText (take k h) (take l i)) _ _
       (λ e. (both ∙ ap ordered (pick-true _ _ _ e) ∙ ap (λ (j : ℕ). left j (drop u h ++ m) (drop v i ++ n)) (sym up), up, omega (arith, ap length (p .lines))))
       (λ e. both ∙ ap ordered (pick-false _ _ _ e))
 
   first : (k u : ℕ) (t : Taken) → Next h m k u → Took i n t → Says place h m i n (besideFirst place (take k h) u i t)
-  unfolding besideFirst places.apart
+  unfolding besideFirst places.firstApart
   first k u (taken.Text l v) p q = texts k u l v p q
   first k u taken.Nothing p q = rw (p .lines, q)
   first k u taken.Wants p q = record {}
   first k u taken.Long p q = record {}
 
-  ends : (t : Taken) → linesOf (h ++ m) ≡ [] → Took i n t → SaysOf place h m i n place (goesOn t)
-  unfolding goesOn places.apart
+  ends : (t : Taken) → linesOf (h ++ m) ≡ [] → Took i n t → SaysOf place h m i n place (ifMore t)
+  unfolding ifMore places.firstApart
   ends (taken.Text l v) p q = rw (p, q .lines)
   ends taken.Nothing p q = rw (p, q)
   ends taken.Wants p q = record {}

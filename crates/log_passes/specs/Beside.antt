@@ -25,15 +25,15 @@ besideFirst place x u second taken.Wants = record { place = place; ask = WantsSe
 besideFirst place x u second taken.Long = record { place = place; ask = Strange }
 
 -- the first is over, and the second gives this
-unfoldable pub goesOn : Taken → Ask
-goesOn (taken.Text n v) = Apart
-goesOn taken.Nothing = Same
-goesOn taken.Wants = WantsSecond
-goesOn taken.Long = Strange
+unfoldable pub ifMore : Taken → Ask
+ifMore (taken.Text n v) = Apart
+ifMore taken.Nothing = Same
+ifMore taken.Wants = WantsSecond
+ifMore taken.Long = Strange
 
 unfoldable pub besideOf : ℕ → List ℕ → Taken → List ℕ → Taken → Beside
 besideOf place first (taken.Text n u) second t = besideFirst place (take n first) u second t
-besideOf place first taken.Nothing second t = record { place = place; ask = goesOn t }
+besideOf place first taken.Nothing second t = record { place = place; ask = ifMore t }
 besideOf place first taken.Wants second t = record { place = place; ask = WantsFirst }
 besideOf place first taken.Long second t = record { place = place; ask = Strange }
 

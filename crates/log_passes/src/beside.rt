@@ -1,7 +1,7 @@
 // Two logs in their order: the first line in which they are not the same.
 ghost use mathlib.Core.Path.{_≡_};
 ghost use Rattle.log_passes.specs.Taking.{Inside};
-ghost use Rattle.log_passes.specs.Beside.{goesOn, besideTexts, besideFirst, besideOf, besideIn};
+ghost use Rattle.log_passes.specs.Beside.{ifMore, besideTexts, besideFirst, besideOf, besideIn};
 use crate::taking;
 use crate::taking::Taken;
 
@@ -64,7 +64,7 @@ fn asked(place: u64, ask: Ask) -> Beside
 
 // The first log is over.
 fn beside_end(place: u64, taken: Taken) -> Beside
-    ensures { λ r. ⌜ r ≡ record { place = place; ask = goesOn taken } ⌝ }
+    ensures { λ r. ⌜ r ≡ record { place = place; ask = ifMore taken } ⌝ }
 {
     match taken {
         Taken::Text(_n, _used) => asked(place, Ask::Apart),

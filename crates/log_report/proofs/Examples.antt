@@ -8,7 +8,7 @@ use Rattle.log_lines.specs.Text.{ascii, decimal, digits}
 use Rattle.log_lines.specs.Lines.{textOf, wordText, verdictText, triggerText, inRange, wordInRange, verdictInRange}
 use Rattle.log_lines.specs.Steps.{seenIn, guessed}
 use Rattle.log_text.specs.Text.{sameText, splitInto, linesOf}
-use Rattle.log_text.specs.Apart.{apart}
+use Rattle.log_text.specs.Apart.{firstApart}
 use Rattle.log_parts.specs.Sorts.{sortOf, isOf, ofSort, numberOf, sameLine}
 use Rattle.log_parts.specs.Named.{lineIn, rises, nextLeast, namedAs, namedFrom, named}
 use Rattle.log_parts.specs.Numbers.{lineAt, differsAt, count, differing, leastOf, leastDiffering, firstByNumber}
@@ -30,5 +30,5 @@ pub record Examples : Type 0 where
   pub falls : told "" "frame 3 weak\ncycle 3 hold\nframe 3 weak\n" ≡ ascii "refused 8: b.log line 3: number does not rise: frame 3 weak\n"
 
 pub examples : Examples
-unfolding pick textOf wordText verdictText triggerText decimal digits inRange wordInRange verdictInRange seenIn guessed sameText splitInto linesOf apart sortOf isOf ofSort numberOf sameLine lineIn rises nextLeast namedAs namedFrom named lineAt differsAt count differing leastOf leastDiffering firstByNumber byOrder reportOf parting sideWords markedText differText sectionText sectionsText alike allAlike placeText orderText countsText reportText whyText shownText whereText strangeText partedText
+unfolding pick textOf wordText verdictText triggerText decimal digits inRange wordInRange verdictInRange seenIn guessed sameText splitInto linesOf firstApart sortOf isOf ofSort numberOf sameLine lineIn rises nextLeast namedAs namedFrom named lineAt differsAt count differing leastOf leastDiffering firstByNumber byOrder reportOf parting sideWords markedText differText sectionText sectionsText alike allAlike placeText orderText countsText reportText whyText shownText whereText strangeText partedText
 examples = record { part = refl; end = refl; order = refl; same = refl; strange = refl; falls = refl }

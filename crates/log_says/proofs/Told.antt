@@ -18,7 +18,7 @@ use Rattle.log_text.specs.declared.Piece.the-variants as piece
 use Rattle.log_text.proofs.Newlines.{cut-tells, long-starts, newline-within}
 use Rattle.log_hold.specs.declared.Due.{Due}
 use Rattle.log_hold.specs.declared.Verdict.the-variants as verdict
-use Rattle.log_says.specs.Says.{ended, placeText, shownText, standsText, shouldText, verdictText}
+use Rattle.log_says.specs.Says.{ended, placeText, shownText, standsText, shouldText, apartText}
 use Rattle.log_says.specs.Calls.{dueSide, pieceSide, sideAt, saidText}
 
 -- two constructors are never equal: `cc` proves this of them
@@ -73,10 +73,10 @@ module _ (hand more : List ℕ) (e : Bool) (b : Behind e more) where
   side-by piece.Over c w = ap (λ (ls : List (List ℕ)). standsText (front ls)) (sym (told piece.Over c))
 
   -- where the next line of the log is known, what is said of a wrong one is the text of the verdict that names it
-  pub wrong-told : (k : ℕ) (d : Due) → (cutOf hand e ≡ piece.Wants → ⊥) → saidText k (verdict.Wrong d) hand e ≡ verdictText (At k (front (linesOf (hand ++ more))) (dueSide d))
-  unfolding saidText verdictText sideAt
+  pub wrong-told : (k : ℕ) (d : Due) → (cutOf hand e ≡ piece.Wants → ⊥) → saidText k (verdict.Wrong d) hand e ≡ apartText (At k (front (linesOf (hand ++ more))) (dueSide d))
+  unfolding saidText apartText sideAt
   wrong-told k d w = ap (λ (t : List ℕ). placeText k ++ t ++ shouldText (dueSide d)) (side-by (cutOf hand e) refl w)
 
-pub accepted-told : (k : ℕ) (hand : List ℕ) (e : Bool) → saidText k verdict.Accepted hand e ≡ verdictText Same
+pub accepted-told : (k : ℕ) (hand : List ℕ) (e : Bool) → saidText k verdict.Accepted hand e ≡ apartText Same
 unfolding saidText
 accepted-told k hand e = refl

@@ -17,7 +17,7 @@ use Rattle.log_hold.specs.declared.Due.{Due}
 use Rattle.log_hold.specs.declared.Due.the-variants as due
 use Rattle.log_hold.specs.declared.Verdict.{Verdict}
 use Rattle.log_hold.specs.declared.Verdict.the-variants as verdict
-use Rattle.log_says.specs.Says.{standsText, shouldText, verdictText}
+use Rattle.log_says.specs.Says.{standsText, shouldText, apartText}
 
 -- what should stand
 abbrev pub dueSide : Due → Side
@@ -38,8 +38,8 @@ sideAt hand ended = pieceSide hand (cutOf hand ended)
 -- of a log that is still held against its lines nothing is said
 unfoldable pub saidText : ℕ → Verdict → List ℕ → Bool → List ℕ
 saidText line verdict.Going hand ended = []
-saidText line verdict.Accepted hand ended = verdictText Same
-saidText line (verdict.Wrong d) hand ended = verdictText (At line (sideAt hand ended) (dueSide d))
+saidText line verdict.Accepted hand ended = apartText Same
+saidText line (verdict.Wrong d) hand ended = apartText (At line (sideAt hand ended) (dueSide d))
 
 -- no verdict asks for more
 abbrev pub room : ℕ

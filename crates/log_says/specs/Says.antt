@@ -27,6 +27,6 @@ unfoldable pub shouldText : Side → List ℕ
 shouldText Nothing = ascii "should stand nothing" ++ ended
 shouldText (There t) = ascii "should stand: " ++ t ++ ended
 
-unfoldable pub verdictText : Apart → List ℕ
-verdictText Same = ascii "accepted" ++ ended
-verdictText (At k x y) = placeText k ++ standsText x ++ shouldText y
+unfoldable pub apartText : Apart → List ℕ
+apartText Same = ascii "accepted" ++ ended
+apartText (At k x y) = placeText k ++ standsText x ++ shouldText y

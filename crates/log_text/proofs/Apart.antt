@@ -1,4 +1,4 @@
--- What `apart` answers: `Same` exactly if the lists are equal, else the first wrong line.
+-- What `firstApart` answers: `Same` exactly if the lists are equal, else the first wrong line.
 use Prim.Native.Nat.{ℕ, _+_}
 use mathlib.Core.Path.{_≡_, refl, sym, ap, _∙_}
 use mathlib.Core.Logic.{_↔_}
@@ -7,15 +7,15 @@ use mathlib.Core.List.{List, [], _∷_}
 use native.Mathlib.Omega.{arith}
 use Rattle.answers.specs.Pick.{pick, pick-true, pick-case}
 use Rattle.log_text.specs.Text.{sameText}
-use Rattle.log_text.specs.Apart.{Side, Apart, Same, At, apart, FirstWrong, turned}
+use Rattle.log_text.specs.Apart.{Side, Apart, Same, At, firstApart, FirstWrong, exchanged}
 use Rattle.log_text.proofs.Text.{same-texts, text-itself, other-texts, text-turned}
 
 -- two constructors are never equal: `cc` proves this of them
 clash : {A : Type 0} → _≡_ {A = ℕ} 0 1 → A
 clash z = absurd (omega (arith, z))
 
-same-lists : (n : ℕ) (xs ys : List (List ℕ)) → apart n xs ys ≡ Same → xs ≡ ys
-unfolding apart
+same-lists : (n : ℕ) (xs ys : List (List ℕ)) → firstApart n xs ys ≡ Same → xs ≡ ys
+unfolding firstApart
 same-lists n [] [] e = refl
 same-lists n [] (y ∷ ys) e = clash (cc)
 same-lists n (x ∷ xs) [] e = clash (cc)
@@ -25,18 +25,18 @@ same-lists n (x ∷ xs) (y ∷ ys) e =
     (λ s e. clash (cc))
     e
 
-apart-itself : (n : ℕ) (xs : List (List ℕ)) → apart n xs xs ≡ Same
-unfolding apart
+apart-itself : (n : ℕ) (xs : List (List ℕ)) → firstApart n xs xs ≡ Same
+unfolding firstApart
 apart-itself n [] = refl
 apart-itself n (x ∷ xs) = pick-true _ _ _ (text-itself x) ∙ apart-itself _ xs
 
 -- request k: a log is accepted exactly if it is the log of its recording
-pub same-exactly : (n : ℕ) (xs ys : List (List ℕ)) → (apart n xs ys ≡ Same) ↔ (xs ≡ ys)
-same-exactly n xs ys = (same-lists n xs ys, λ e. ap (λ (l : List (List ℕ)). apart n xs l) (sym e) ∙ apart-itself n xs)
+pub same-exactly : (n : ℕ) (xs ys : List (List ℕ)) → (firstApart n xs ys ≡ Same) ↔ (xs ≡ ys)
+same-exactly n xs ys = (same-lists n xs ys, λ e. ap (λ (l : List (List ℕ)). firstApart n xs l) (sym e) ∙ apart-itself n xs)
 
 -- "name the first wrong line and the line that should stand there"
-pub first-wrong : (n : ℕ) (xs ys : List (List ℕ)) (k : ℕ) (x y : Side) → apart n xs ys ≡ At k x y → FirstWrong n xs ys k x y
-unfolding apart
+pub first-wrong : (n : ℕ) (xs ys : List (List ℕ)) (k : ℕ) (x y : Side) → firstApart n xs ys ≡ At k x y → FirstWrong n xs ys k x y
+unfolding firstApart
 first-wrong n [] [] k x y e = clash (cc)
 first-wrong n [] (b ∷ ys) k x y e =
     record { right = []; restOfFirst = []; restOfSecond = b ∷ ys; first = refl; second = refl; place = (let h : k ≡ n = cc in omega arith); stands = cc; shouldStand = cc; differ = λ h. clash (cc) }
@@ -59,14 +59,14 @@ first-wrong n (a ∷ xs) (b ∷ ys) k x y e =
     (λ s e. record { right = []; restOfFirst = a ∷ xs; restOfSecond = b ∷ ys; first = refl; second = refl; place = (let h : k ≡ n = cc in omega arith); stands = cc; shouldStand = cc; differ = λ h. other-texts a b s (cc) })
     e
 
-turned-pick : (b : Bool) (r s x y : Apart) → s ≡ turned r → y ≡ turned x → pick b s y ≡ turned (pick b r x)
+turned-pick : (b : Bool) (r s x y : Apart) → s ≡ exchanged r → y ≡ exchanged x → pick b s y ≡ exchanged (pick b r x)
 unfolding pick
 turned-pick true r s x y e f = e
 turned-pick false r s x y e f = f
 
 -- the other way round the place is the same and the sides are exchanged
-pub apart-turned : (n : ℕ) (xs ys : List (List ℕ)) → apart n ys xs ≡ turned (apart n xs ys)
-unfolding apart
+pub apart-turned : (n : ℕ) (xs ys : List (List ℕ)) → firstApart n ys xs ≡ exchanged (firstApart n xs ys)
+unfolding firstApart
 apart-turned n [] [] = refl
 apart-turned n [] (y ∷ ys) = refl
 apart-turned n (x ∷ xs) [] = refl

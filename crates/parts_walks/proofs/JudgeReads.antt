@@ -20,7 +20,7 @@ use Rattle.log_passes.specs.declared.judging.Judgement.{Judgement}
 use Rattle.log_passes.specs.declared.judging.Look.{Look}
 use Rattle.log_passes.specs.declared.judging.Look.the-variants.{Goes, Wants, Over, Strange}
 use Rattle.pipes.specs.Window as windows
-use Rattle.parts_walks.specs.Judged.{answered, Heeded, cameBy, Turned, Turns, none, more}
+use Rattle.parts_walks.specs.Judged.{judgeAnswered, Heeded, cameBy, JudgeTurned, JudgeTurns, none, more}
 use Rattle.parts_walks.specs.declared.judge.Stand.{Stand}
 use Rattle.pipes.proofs.Going.{nothing-comes, hand-on}
 use Rattle.parts_walks.proofs.Moving.{behind-is, holds}
@@ -57,7 +57,7 @@ module _ (j k : Judging) (w w' : Window) (room room' rest : List ℕ) (h : Heard
       subst (λ (i : Judging). Judges i (atHand w room ++ rest) h) e
       (subst (λ (v : Window). Judges k (atHand v room ++ rest) h) f (subst (λ (l : List ℕ). Judges k (atHand w' l ++ rest) h) g left))
 
-  by-look : (l : Look) (d : Heeded l w room w' room') → _≡_ {A = Judgement} (record { judging = k; look = l }) (answered j w room)
+  by-look : (l : Look) (d : Heeded l w room w' room') → _≡_ {A = Judgement} (record { judging = k; look = l }) (judgeAnswered j w room)
       → Judges j (atHand w room ++ (cameBy l w room w' room' d ++ rest)) h
   by-look (Goes used) d e =
       goes (atHand w room) (d .came ++ rest) (windows.over w) k used (holds used w w' room room' d rest behind) (sym e) (subst (λ (t : List ℕ). Judges k t h) (hand-on used w w' room room' d rest) left)
@@ -74,7 +74,7 @@ ended-before (Strange n) w w' room room' rest d behind o = behind (ap windows.ov
 
 -- ---- turn after turn
 
-pub reads-on : {s t : Stand} {room room' bytes : List ℕ} → Turns s room bytes t room' → (rest : List ℕ) (h : Heard) → (windows.over (t .window) ≡ true → rest ≡ [])
+pub reads-on : {s t : Stand} {room room' bytes : List ℕ} → JudgeTurns s room bytes t room' → (rest : List ℕ) (h : Heard) → (windows.over (t .window) ≡ true → rest ≡ [])
     → Judges (t .judging) (atHand (t .window) room' ++ rest) h → Judges (s .judging) (atHand (s .window) room ++ (bytes ++ rest)) h
 reads-on none rest h behind left = left
 reads-on {s} {t} {room} {room'} (more {t = m} {room₁ = between} {bytes = bytes} before one) rest h behind left =
@@ -100,21 +100,21 @@ module _ (w w' : Window) (room room' : List ℕ) where
   still-strange n Over d e = clash (cc)
   still-strange n (Strange m) d e = (refl, d .0, d .1)
 
-said-at : {s t : Stand} {room room' : List ℕ} (l : Look) → Turned s room t room' → t .look ≡ l → answered (s .judging) (s .window) room ≡ record { judging = t .judging; look = l }
+said-at : {s t : Stand} {room room' : List ℕ} (l : Look) → JudgeTurned s room t room' → t .look ≡ l → judgeAnswered (s .judging) (s .window) room ≡ record { judging = t .judging; look = l }
 said-at {s} {t} l one e = sym (one .said) ∙ ap (λ (k : Look). record { judging = t .judging; look = k }) e
 
 holds-all : (w : Window) (room : List ℕ) → Holds (atHand w room ++ []) (atHand w room) [] (windows.over w)
 holds-all w room = record { joins = refl; behind = behind-is (windows.over w) [] (λ o. refl) }
 
 -- the loop came to the end of the log: of the bytes that came, behind those at hand, a host hears that each line is one of a log
-pub judge-fine : {s t : Stand} {room room' bytes : List ℕ} → s .look ≡ Wants → Turns s room bytes t room' → t .look ≡ Over → Judges (s .judging) (atHand (s .window) room ++ bytes) Fine
+pub judge-fine : {s t : Stand} {room room' bytes : List ℕ} → s .look ≡ Wants → JudgeTurns s room bytes t room' → t .look ≡ Over → Judges (s .judging) (atHand (s .window) room ++ bytes) Fine
 judge-fine first none last = clash (cc)
 judge-fine {s} {t} {room} {room'} first (more {t = m} {room₁ = between} {bytes = bytes} before one) last =
     subst (λ (l : List ℕ). Judges (s .judging) (atHand (s .window) room ++ (bytes ++ l)) Fine) (sym (still-over (m .window) (t .window) between room' (t .look) (one .done) last))
     (reads-on before [] Fine (λ o. refl) (over (atHand (m .window) between) [] (windows.over (m .window)) (t .judging) (holds-all (m .window) between) (said-at Over one last)))
 
 -- it stopped before a line: a host hears the same place, and the same bytes of that line
-pub judge-stops : {s t : Stand} {room room' bytes : List ℕ} (n : ℕ) → s .look ≡ Wants → Turns s room bytes t room' → t .look ≡ Strange n
+pub judge-stops : {s t : Stand} {room room' bytes : List ℕ} (n : ℕ) → s .look ≡ Wants → JudgeTurns s room bytes t room' → t .look ≡ Strange n
     → Judges (s .judging) (atHand (s .window) room ++ bytes) (Stops (t .judging .place) (take n (atHand (t .window) room')))
 judge-stops n first none last = clash (cc)
 judge-stops {s} {t} {room} {room'} n first (more {t = m} {room₁ = between} {bytes = bytes} before one) last =

@@ -6,7 +6,7 @@ use Rattle.pipes.specs.Window.{Within}
 use Rattle.pipes.specs.declared.window.Window.{Window}
 use Rattle.log_passes.specs.declared.judging.Look.{Look}
 use Rattle.log_passes.specs.declared.judging.Look.the-variants.{Goes, Wants, Over, Strange}
-use Rattle.parts_walks.specs.Judged.{Heeded, Turned, Walked, none, more}
+use Rattle.parts_walks.specs.Judged.{Heeded, JudgeTurned, JudgeWalked, none, more}
 use Rattle.parts_walks.specs.declared.judge.Stand.{Stand}
 
 module _ (w : Window) (room : List ℕ) (w' : Window) (room' : List ℕ) where
@@ -21,8 +21,8 @@ module _ (w : Window) (room : List ℕ) (w' : Window) (room' : List ℕ) where
 
 -- ---- turn after turn
 
-pub begun : (s : Stand) (room : List ℕ) → Walked s room s room
+pub begun : (s : Stand) (room : List ℕ) → JudgeWalked s room s room
 begun s room = record { bytes = []; turns = none }
 
-pub goes-on : {s t u : Stand} {room room₁ room₂ : List ℕ} → Walked s room t room₁ → Turned t room₁ u room₂ → Walked s room u room₂
+pub goes-on : {s t u : Stand} {room room₁ room₂ : List ℕ} → JudgeWalked s room t room₁ → JudgeTurned t room₁ u room₂ → JudgeWalked s room u room₂
 goes-on w one = record { bytes = _; turns = more (w .turns) one }

@@ -10,7 +10,7 @@ use Rattle.pipes.specs.Window.{atHand, over}
 use Rattle.log_text.specs.Text.{sameText}
 use Rattle.log_parts.proofs.Merges.{clash}
 use Rattle.log_passes.specs.Taking.{takenIn}
-use Rattle.log_passes.specs.Beside.{besideTexts, besideFirst, goesOn, besideOf, besideIn}
+use Rattle.log_passes.specs.Beside.{besideTexts, besideFirst, ifMore, besideOf, besideIn}
 use Rattle.log_passes.specs.Hosts.{Holds, Ordered, Equal, From, Orders, goes, same, apart}
 use Rattle.log_passes.specs.declared.taking.Taken.{Taken}
 use Rattle.log_passes.specs.declared.taking.Taken.the-variants as taken
@@ -18,7 +18,7 @@ use Rattle.log_passes.specs.declared.beside.Ask.{Ask}
 use Rattle.log_passes.specs.declared.beside.Ask.the-variants.{Goes, WantsFirst, WantsSecond, Same, Apart, Strange}
 use Rattle.log_passes.specs.declared.beside.Beside.{Beside}
 use Rattle.parts_walks.specs.Inputs.{BothMoved}
-use Rattle.parts_walks.specs.Ordered.{answered, firstUsed, secondUsed, Turned, Turns, none, more}
+use Rattle.parts_walks.specs.Ordered.{orderAnswered, firstUsed, secondUsed, OrderTurned, OrderTurns, none, more}
 use Rattle.parts_walks.specs.declared.inputs.Inputs.{Inputs}
 use Rattle.parts_walks.specs.declared.order.Walk.{Walk}
 use Rattle.pipes.proofs.Going.{nothing-came, nothing-comes, hand-on}
@@ -52,8 +52,8 @@ kept-first p x u second taken.Nothing = refl
 kept-first p x u second taken.Wants = refl
 kept-first p x u second taken.Long = refl
 
-kept-end : (p : ℕ) (t : Taken) → Keeps (goesOn t) p p
-unfolding goesOn
+kept-end : (p : ℕ) (t : Taken) → Keeps (ifMore t) p p
+unfolding ifMore
 kept-end p (taken.Text n v) = refl
 kept-end p taken.Nothing = refl
 kept-end p taken.Wants = refl
@@ -66,7 +66,7 @@ kept-of p first taken.Nothing second t' = kept-end p t'
 kept-of p first taken.Wants second t' = refl
 kept-of p first taken.Long second t' = refl
 
-kept : (i : Inputs) (a b : List ℕ) (p q : ℕ) (l : Ask) → _≡_ {A = Beside} (record { place = q; ask = l }) (answered p i a b) → Keeps l p q
+kept : (i : Inputs) (a b : List ℕ) (p q : ℕ) (l : Ask) → _≡_ {A = Beside} (record { place = q; ask = l }) (orderAnswered p i a b) → Keeps l p q
 unfolding besideIn
 kept i a b p q l e = subst (KeptIn p) (sym e) (kept-of p (atHand (i .first) a) (takenIn (atHand (i .first) a) (over (i .first))) (atHand (i .second) b) (takenIn (atHand (i .second) b) (over (i .second))))
 
@@ -83,7 +83,7 @@ module _ (p q : ℕ) (i i' : Inputs) (a b a' b' ra rb : List ℕ) (r : Ordered) 
   unmoved : (m : BothMoved 0 0 i a b i' a' b') → q ≡ p → Orders p (atHand (i .first) a ++ (m .first .came ++ ra)) (atHand (i .second) b ++ (m .second .came ++ rb)) r
   unmoved m e = subst (λ (n : ℕ). Orders n (atHand (i .first) a ++ (m .first .came ++ ra)) (atHand (i .second) b ++ (m .second .came ++ rb)) r) e (moved 0 0 m)
 
-  by-ask : (l : Ask) (m : BothMoved (firstUsed l) (secondUsed l) i a b i' a' b') → _≡_ {A = Beside} (record { place = q; ask = l }) (answered p i a b)
+  by-ask : (l : Ask) (m : BothMoved (firstUsed l) (secondUsed l) i a b i' a' b') → _≡_ {A = Beside} (record { place = q; ask = l }) (orderAnswered p i a b)
       → Orders p (atHand (i .first) a ++ (m .first .came ++ ra)) (atHand (i .second) b ++ (m .second .came ++ rb)) r
   by-ask (Goes u v) m e =
       goes (atHand (i .first) a) (m .first .came ++ ra) (over (i .first)) (atHand (i .second) b) (m .second .came ++ rb) (over (i .second)) q u v
@@ -96,7 +96,7 @@ module _ (p q : ℕ) (i i' : Inputs) (a b a' b' ra rb : List ℕ) (r : Ordered) 
 
 -- ---- turn after turn
 
-pub reads-on : {w u : Walk} {a b a' b' x y : List ℕ} → Turns w a b x y u a' b' → (ra rb : List ℕ) (r : Ordered) → (over (u .inputs .first) ≡ true → ra ≡ []) → (over (u .inputs .second) ≡ true → rb ≡ [])
+pub reads-on : {w u : Walk} {a b a' b' x y : List ℕ} → OrderTurns w a b x y u a' b' → (ra rb : List ℕ) (r : Ordered) → (over (u .inputs .first) ≡ true → ra ≡ []) → (over (u .inputs .second) ≡ true → rb ≡ [])
     → Orders (u .place) (atHand (u .inputs .first) a' ++ ra) (atHand (u .inputs .second) b' ++ rb) r
     → Orders (w .place) (atHand (w .inputs .first) a ++ (x ++ ra)) (atHand (w .inputs .second) b ++ (y ++ rb)) r
 reads-on none ra rb r ea eb left = left
@@ -111,8 +111,8 @@ reads-on {w} {u} {a} {b} {a'} {b'} (more {v = v} {a₁ = a₁} {b₁ = b₁} {x 
 
 -- ---- the last turn
 
-module _ {v u : Walk} {a b a' b' : List ℕ} (one : Turned v a b u a' b') where
-  said-at : (l : Ask) → u .ask ≡ l → answered (v .place) (v .inputs) a b ≡ record { place = u .place; ask = l }
+module _ {v u : Walk} {a b a' b' : List ℕ} (one : OrderTurned v a b u a' b') where
+  said-at : (l : Ask) → u .ask ≡ l → orderAnswered (v .place) (v .inputs) a b ≡ record { place = u .place; ask = l }
   said-at l e = sym (one .said) ∙ ap (λ (k : Ask). record { place = u .place; ask = k }) e
 
   first-last : Holds (atHand (v .inputs .first) a ++ one .done .first .came) (atHand (v .inputs .first) a) (one .done .first .came) (over (v .inputs .first))
@@ -130,13 +130,13 @@ module _ {v u : Walk} {a b a' b' : List ℕ} (one : Turned v a b u a' b') where
       (apart (atHand (v .inputs .first) a) _ (over (v .inputs .first)) (atHand (v .inputs .second) b) _ (over (v .inputs .second)) (u .place) first-last second-last (said-at Apart e))
 
 -- the loop found no difference: of the bytes that came, behind those at hand, a host finds none
-pub order-same : {w u : Walk} {a b a' b' x y : List ℕ} → w .ask ≡ WantsFirst → Turns w a b x y u a' b' → u .ask ≡ Same
+pub order-same : {w u : Walk} {a b a' b' x y : List ℕ} → w .ask ≡ WantsFirst → OrderTurns w a b x y u a' b' → u .ask ≡ Same
     → Orders (w .place) (atHand (w .inputs .first) a ++ x) (atHand (w .inputs .second) b ++ y) Equal
 order-same first none last = clash (cc)
 order-same first (more before one) last = reads-on before (one .done .first .came) (one .done .second .came) Equal (nothing-came _ _ _ _ _ (one .done .first)) (nothing-came _ _ _ _ _ (one .done .second)) (last-same one last)
 
 -- it found one: a host finds it in the same place
-pub order-apart : {w u : Walk} {a b a' b' x y : List ℕ} → w .ask ≡ WantsFirst → Turns w a b x y u a' b' → u .ask ≡ Apart
+pub order-apart : {w u : Walk} {a b a' b' x y : List ℕ} → w .ask ≡ WantsFirst → OrderTurns w a b x y u a' b' → u .ask ≡ Apart
     → Orders (w .place) (atHand (w .inputs .first) a ++ x) (atHand (w .inputs .second) b ++ y) (From (u .place))
 order-apart first none last = clash (cc)
 order-apart {u = u} first (more before one) last = reads-on before (one .done .first .came) (one .done .second .came) (From (u .place)) (nothing-came _ _ _ _ _ (one .done .first)) (nothing-came _ _ _ _ _ (one .done .second)) (last-apart one last)

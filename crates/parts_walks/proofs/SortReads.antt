@@ -24,7 +24,7 @@ use Rattle.log_passes.specs.declared.passing.Need.the-variants.{Goes, WantsFirs
 use Rattle.log_passes.specs.declared.passing.Step.{Step}
 use Rattle.pipes.specs.Window as windows
 use Rattle.parts_walks.specs.Inputs.{BothMoved}
-use Rattle.parts_walks.specs.Counted.{answered, Turned, Turns, none, more}
+use Rattle.parts_walks.specs.Counted.{countAnswered, CountTurned, CountTurns, none, more}
 use Rattle.parts_walks.specs.declared.inputs.Inputs.{Inputs}
 use Rattle.parts_walks.specs.declared.sorts.Walk.{Walk}
 use Rattle.pipes.proofs.Going.{nothing-came, nothing-comes, hand-on}
@@ -80,7 +80,7 @@ kept-step s p x e y f = each (p .first) (p .second) refl refl
     each (Has k) Sought g h = kept-second p (soughtIn s y (takenIn y f))
     each (Has k) (Has l) g h = kept-turn p k l (turnAt k l) g h
 
-kept : (s : Sort) (i : Inputs) (a b : List ℕ) (p q : Pass) (u v : ℕ) (n : Need) → stepOf q u v n ≡ answered s p i a b → Keeps n p q u v
+kept : (s : Sort) (i : Inputs) (a b : List ℕ) (p q : Pass) (u v : ℕ) (n : Need) → stepOf q u v n ≡ countAnswered s p i a b → Keeps n p q u v
 kept s i a b p q u v n e = subst (KeptIn p) (sym e) (kept-step s p (atHand (i .first) a) (windows.over (i .first)) (atHand (i .second) b) (windows.over (i .second)))
 
 -- ---- one turn
@@ -98,7 +98,7 @@ module _ (s : Sort) (p q : Pass) (i i' : Inputs) (a b a' b' ra rb : List ℕ) (t
       (subst (λ (z : ℕ). Passes s q (drop z (atHand (i .first) a) ++ (m .first .came ++ ra)) (atHand (i .second) b ++ (m .second .came ++ rb)) t) (k .first)
       (subst (λ (z : ℕ). Passes s q (drop u (atHand (i .first) a) ++ (m .first .came ++ ra)) (drop z (atHand (i .second) b) ++ (m .second .came ++ rb)) t) (k .second) (moved u v m)))
 
-  by-need : (n : Need) (u v : ℕ) (m : BothMoved u v i a b i' a' b') → stepOf q u v n ≡ answered s p i a b
+  by-need : (n : Need) (u v : ℕ) (m : BothMoved u v i a b i' a' b') → stepOf q u v n ≡ countAnswered s p i a b
       → Passes s p (atHand (i .first) a ++ (m .first .came ++ ra)) (atHand (i .second) b ++ (m .second .came ++ rb)) t
   by-need Goes u v m e =
       goes (atHand (i .first) a) (m .first .came ++ ra) (windows.over (i .first)) (atHand (i .second) b) (m .second .came ++ rb) (windows.over (i .second)) q u v
@@ -110,7 +110,7 @@ module _ (s : Sort) (p q : Pass) (i i' : Inputs) (a b a' b' ra rb : List ℕ) (t
 
 -- ---- turn after turn
 
-pub reads-on : {s : Sort} {w u : Walk} {a b a' b' x y : List ℕ} → Turns s w a b x y u a' b' → (ra rb : List ℕ) (t : Tally)
+pub reads-on : {s : Sort} {w u : Walk} {a b a' b' x y : List ℕ} → CountTurns s w a b x y u a' b' → (ra rb : List ℕ) (t : Tally)
     → (windows.over (u .inputs .first) ≡ true → ra ≡ []) → (windows.over (u .inputs .second) ≡ true → rb ≡ [])
     → Passes s (u .pass) (atHand (u .inputs .first) a' ++ ra) (atHand (u .inputs .second) b' ++ rb) t
     → Passes s (w .pass) (atHand (w .inputs .first) a ++ (x ++ ra)) (atHand (w .inputs .second) b ++ (y ++ rb)) t
@@ -126,7 +126,7 @@ reads-on {s} {w} {u} {a} {b} {a'} {b'} (more {v = v} {a₁ = a₁} {b₁ = b₁}
 
 -- ---- the last turn
 
-module _ {s : Sort} {v u : Walk} {a b a' b' : List ℕ} (one : Turned s v a b u a' b') where
+module _ {s : Sort} {v u : Walk} {a b a' b' : List ℕ} (one : CountTurned s v a b u a' b') where
   last-over : u .need ≡ Over → Passes s (v .pass) (atHand (v .inputs .first) a ++ one .done .first .came) (atHand (v .inputs .second) b ++ one .done .second .came) (u .pass .tally)
   last-over e =
       over (atHand (v .inputs .first) a) (one .done .first .came) (windows.over (v .inputs .first)) (atHand (v .inputs .second) b) (one .done .second .came) (windows.over (v .inputs .second)) (u .pass) (one .u) (one .v)
@@ -135,7 +135,7 @@ module _ {s : Sort} {v u : Walk} {a b a' b' : List ℕ} (one : Turned s v a b u 
       (sym (one .said) ∙ ap (stepOf (u .pass) (one .u) (one .v)) e)
 
 -- the loop came to the ends of both: of the bytes that came, behind those at hand, a host counts the same and finds the same first difference
-pub sort-counts : {s : Sort} {w u : Walk} {a b a' b' x y : List ℕ} → w .need ≡ Goes → Turns s w a b x y u a' b' → u .need ≡ Over
+pub sort-counts : {s : Sort} {w u : Walk} {a b a' b' x y : List ℕ} → w .need ≡ Goes → CountTurns s w a b x y u a' b' → u .need ≡ Over
     → Passes s (w .pass) (atHand (w .inputs .first) a ++ x) (atHand (w .inputs .second) b ++ y) (u .pass .tally)
 sort-counts first none last = clash (cc)
 sort-counts {u = u} first (more before one) last = reads-on before (one .done .first .came) (one .done .second .came) (u .pass .tally) (nothing-came _ _ _ _ _ (one .done .first)) (nothing-came _ _ _ _ _ (one .done .second)) (last-over one last)

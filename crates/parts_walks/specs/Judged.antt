@@ -13,12 +13,12 @@ use Rattle.log_passes.specs.declared.judging.Look.the-variants.{Goes, Wants, Ov
 use Rattle.parts_walks.specs.declared.judge.Stand.{Stand}
 
 -- before the first answer
-abbrev pub opened : Window → Stand
-opened w = record { judging = unread; window = w; look = Wants }
+abbrev pub judgeOpened : Window → Stand
+judgeOpened w = record { judging = unread; window = w; look = Wants }
 
 -- what is answered of the bytes at hand, and of nothing else
-abbrev pub answered : Judging → Window → List ℕ → Judgement
-answered j w room = judgedIn j (atHand w room) (takenIn (atHand w room) (over w))
+abbrev pub judgeAnswered : Judging → Window → List ℕ → Judgement
+judgeAnswered j w room = judgedIn j (atHand w room) (takenIn (atHand w room) (over w))
 
 -- what was answered is done: bytes are used, or more of them read; else all stays
 abbrev pub Heeded : Look → Window → List ℕ → Window → List ℕ → Type 0
@@ -34,16 +34,16 @@ cameBy Wants w room w' room' m = m .came
 cameBy Over w room w' room' m = []
 cameBy (Strange n) w room w' room' m = []
 
-pub record Turned (s : Stand) (room : List ℕ) (s' : Stand) (room' : List ℕ) : Type 0 where
-  pub said : _≡_ {A = Judgement} (record { judging = s' .judging; look = s' .look }) (answered (s .judging) (s .window) room)
+pub record JudgeTurned (s : Stand) (room : List ℕ) (s' : Stand) (room' : List ℕ) : Type 0 where
+  pub said : _≡_ {A = Judgement} (record { judging = s' .judging; look = s' .look }) (judgeAnswered (s .judging) (s .window) room)
   pub done : Heeded (s' .look) (s .window) room (s' .window) room'
 
 -- turn after turn, in which these bytes came
-pub data Turns : Stand → List ℕ → List ℕ → Stand → List ℕ → Type 0 where
-  none : {s : Stand} {room : List ℕ} → Turns s room [] s room
-  more : {s t u : Stand} {room room₁ room₂ bytes : List ℕ} → Turns s room bytes t room₁ → (one : Turned t room₁ u room₂)
-      → Turns s room (bytes ++ cameBy (u .look) (t .window) room₁ (u .window) room₂ (one .done)) u room₂
+pub data JudgeTurns : Stand → List ℕ → List ℕ → Stand → List ℕ → Type 0 where
+  none : {s : Stand} {room : List ℕ} → JudgeTurns s room [] s room
+  more : {s t u : Stand} {room room₁ room₂ bytes : List ℕ} → JudgeTurns s room bytes t room₁ → (one : JudgeTurned t room₁ u room₂)
+      → JudgeTurns s room (bytes ++ cameBy (u .look) (t .window) room₁ (u .window) room₂ (one .done)) u room₂
 
-pub record Walked (s : Stand) (room : List ℕ) (s' : Stand) (room' : List ℕ) : Type 0 where
+pub record JudgeWalked (s : Stand) (room : List ℕ) (s' : Stand) (room' : List ℕ) : Type 0 where
   pub bytes : List ℕ
-  pub turns : Turns s room bytes s' room'
+  pub turns : JudgeTurns s room bytes s' room'

@@ -12,12 +12,12 @@ use Rattle.parts_walks.specs.declared.inputs.Inputs.{Inputs}
 use Rattle.parts_walks.specs.declared.order.Walk.{Walk}
 
 -- before the first answer
-abbrev pub opened : Inputs → Walk
-opened i = record { place = 1; inputs = i; ask = WantsFirst }
+abbrev pub orderOpened : Inputs → Walk
+orderOpened i = record { place = 1; inputs = i; ask = WantsFirst }
 
 -- what is answered of the bytes at hand, and of nothing else
-abbrev pub answered : ℕ → Inputs → List ℕ → List ℕ → Beside
-answered place i a b = besideIn place (atHand (i .first) a) (over (i .first)) (atHand (i .second) b) (over (i .second))
+abbrev pub orderAnswered : ℕ → Inputs → List ℕ → List ℕ → Beside
+orderAnswered place i a b = besideIn place (atHand (i .first) a) (over (i .first)) (atHand (i .second) b) (over (i .second))
 
 -- how many bytes of each log were used with an answer
 abbrev pub firstUsed : Ask → ℕ
@@ -36,17 +36,17 @@ secondUsed Same = 0
 secondUsed Apart = 0
 secondUsed Strange = 0
 
-pub record Turned (w : Walk) (a b : List ℕ) (w' : Walk) (a' b' : List ℕ) : Type 0 where
-  pub said : _≡_ {A = Beside} (record { place = w' .place; ask = w' .ask }) (answered (w .place) (w .inputs) a b)
+pub record OrderTurned (w : Walk) (a b : List ℕ) (w' : Walk) (a' b' : List ℕ) : Type 0 where
+  pub said : _≡_ {A = Beside} (record { place = w' .place; ask = w' .ask }) (orderAnswered (w .place) (w .inputs) a b)
   pub done : BothMoved (firstUsed (w' .ask)) (secondUsed (w' .ask)) (w .inputs) a b (w' .inputs) a' b'
 
 -- turn after turn, in which these bytes came of each log
-pub data Turns : Walk → List ℕ → List ℕ → List ℕ → List ℕ → Walk → List ℕ → List ℕ → Type 0 where
-  none : {w : Walk} {a b : List ℕ} → Turns w a b [] [] w a b
-  more : {w v u : Walk} {a b a₁ b₁ a₂ b₂ x y : List ℕ} → Turns w a b x y v a₁ b₁ → (one : Turned v a₁ b₁ u a₂ b₂)
-      → Turns w a b (x ++ one .done .first .came) (y ++ one .done .second .came) u a₂ b₂
+pub data OrderTurns : Walk → List ℕ → List ℕ → List ℕ → List ℕ → Walk → List ℕ → List ℕ → Type 0 where
+  none : {w : Walk} {a b : List ℕ} → OrderTurns w a b [] [] w a b
+  more : {w v u : Walk} {a b a₁ b₁ a₂ b₂ x y : List ℕ} → OrderTurns w a b x y v a₁ b₁ → (one : OrderTurned v a₁ b₁ u a₂ b₂)
+      → OrderTurns w a b (x ++ one .done .first .came) (y ++ one .done .second .came) u a₂ b₂
 
-pub record Walked (w : Walk) (a b : List ℕ) (w' : Walk) (a' b' : List ℕ) : Type 0 where
+pub record OrderWalked (w : Walk) (a b : List ℕ) (w' : Walk) (a' b' : List ℕ) : Type 0 where
   pub ofFirst : List ℕ
   pub ofSecond : List ℕ
-  pub turns : Turns w a b ofFirst ofSecond w' a' b'
+  pub turns : OrderTurns w a b ofFirst ofSecond w' a' b'

@@ -9,7 +9,7 @@ use pipes::window::Window;
 ghost use mathlib.Core.Path.{_≡_};
 ghost use lib.ListN.{length};
 ghost use Rattle.pipes.specs.Window.{Within};
-ghost use Rattle.parts_walks.specs.Judged.{opened, answered, Heeded, Turned, Walked};
+ghost use Rattle.parts_walks.specs.Judged.{judgeOpened, judgeAnswered, Heeded, JudgeTurned, JudgeWalked};
 
 // Where the judge stands, and what was said last.
 pub struct Stand {
@@ -20,7 +20,7 @@ pub struct Stand {
 
 pub fn opening(window: Window) -> Stand
     requires { ⌜ Within window ⌝ }
-    ensures { λ r. ⌜ (r ≡ opened window) × (Within (r .window)) ⌝ }
+    ensures { λ r. ⌜ (r ≡ judgeOpened window) × (Within (r .window)) ⌝ }
 {
     Stand {
         judging: Judging {
@@ -36,7 +36,7 @@ pub fn opening(window: Window) -> Stand
 // What is answered of the bytes at hand.
 fn ask(judging: Judging, window: Window, room: &[u8]) -> Judgement
     requires { ⌜ (Within window) × (length (now room) ≡ 65536) ⌝ }
-    ensures { λ r. ⌜ r ≡ answered judging window (now (room .entry)) ⌝ }
+    ensures { λ r. ⌜ r ≡ judgeAnswered judging window (now (room .entry)) ⌝ }
 {
     let at = window.at;
     let end = window.end;
@@ -58,7 +58,7 @@ fn heed(look: Look, window: Window, room: &mut [u8]) -> Window
 
 fn turn(stand: Stand, room: &mut [u8]) -> Stand
     requires { ⌜ (Within (stand .window)) × (length (now room) ≡ 65536) ⌝ }
-    ensures { λ r. ⌜ (Within (r .window)) × (Turned stand (now (room .entry)) r (now (room .exit))) ⌝ }
+    ensures { λ r. ⌜ (Within (r .window)) × (JudgeTurned stand (now (room .entry)) r (now (room .exit))) ⌝ }
 {
     let before = stand.judging;
     let window = stand.window;
@@ -95,7 +95,7 @@ fn goes_on(stand: Stand) -> bool {
 // The turns are counted so that the loop ends for certain: 2^64 of them take centuries.
 pub fn all(first: Stand, room: &mut [u8]) -> Stand
     requires { ⌜ (Within (first .window)) × (length (now room) ≡ 65536) ⌝ }
-    ensures { λ r. ⌜ (Within (r .window)) × (Walked first (now (room .entry)) r (now (room .exit))) ⌝ }
+    ensures { λ r. ⌜ (Within (r .window)) × (JudgeWalked first (now (room .entry)) r (now (room .exit))) ⌝ }
 {
     let mut stand = first;
     let mut turns: u64 = 0;

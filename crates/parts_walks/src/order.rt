@@ -8,7 +8,7 @@ use log_passes::beside::Beside;
 ghost use mathlib.Core.Path.{_≡_};
 ghost use lib.ListN.{length};
 ghost use Rattle.parts_walks.specs.Inputs.{BothWithin};
-ghost use Rattle.parts_walks.specs.Ordered.{opened, answered, firstUsed, secondUsed, Turned, Walked};
+ghost use Rattle.parts_walks.specs.Ordered.{orderOpened, orderAnswered, firstUsed, secondUsed, OrderTurned, OrderWalked};
 
 // Where the two stand, and what was asked last.
 pub struct Walk {
@@ -19,7 +19,7 @@ pub struct Walk {
 
 pub fn opening(inputs: Inputs) -> Walk
     requires { ⌜ BothWithin inputs ⌝ }
-    ensures { λ r. ⌜ (r ≡ opened inputs) × (BothWithin (r .inputs)) ⌝ }
+    ensures { λ r. ⌜ (r ≡ orderOpened inputs) × (BothWithin (r .inputs)) ⌝ }
 {
     Walk {
         place: 1,
@@ -31,7 +31,7 @@ pub fn opening(inputs: Inputs) -> Walk
 // What is answered of the bytes at hand.
 fn ask(place: u64, inputs: Inputs, first: &[u8], second: &[u8]) -> Beside
     requires { ⌜ (BothWithin inputs) × (length (now first) ≡ 65536) × (length (now second) ≡ 65536) ⌝ }
-    ensures { λ r. ⌜ r ≡ answered place inputs (now (first .entry)) (now (second .entry)) ⌝ }
+    ensures { λ r. ⌜ r ≡ orderAnswered place inputs (now (first .entry)) (now (second .entry)) ⌝ }
 {
     let f = inputs.first.at;
     let f_end = inputs.first.end;
@@ -87,7 +87,7 @@ fn read_on(ask: Ask) -> Wanted {
 // What is answered is done: bytes are used, or more of one log read.
 fn turn(walk: Walk, first: &mut [u8], second: &mut [u8]) -> Walk
     requires { ⌜ (BothWithin (walk .inputs)) × (length (now first) ≡ 65536) × (length (now second) ≡ 65536) ⌝ }
-    ensures { λ r. ⌜ Turned walk (now (first .entry)) (now (second .entry)) r (now (first .exit)) (now (second .exit)) ⌝ }
+    ensures { λ r. ⌜ OrderTurned walk (now (first .entry)) (now (second .entry)) r (now (first .exit)) (now (second .exit)) ⌝ }
 {
     let before = walk.inputs;
     let next = ask(walk.place, before, first, second);
@@ -127,7 +127,7 @@ fn goes_on(walk: Walk) -> bool {
 // The turns are counted so that the loop ends for certain: 2^64 of them take centuries.
 pub fn all(begun: Walk, first: &mut [u8], second: &mut [u8]) -> Walk
     requires { ⌜ (BothWithin (begun .inputs)) × (length (now first) ≡ 65536) × (length (now second) ≡ 65536) ⌝ }
-    ensures { λ r. ⌜ Walked begun (now (first .entry)) (now (second .entry)) r (now (first .exit)) (now (second .exit)) ⌝ }
+    ensures { λ r. ⌜ OrderWalked begun (now (first .entry)) (now (second .entry)) r (now (first .exit)) (now (second .exit)) ⌝ }
 {
     let mut walk = begun;
     let mut turns: u64 = 0;

@@ -10,7 +10,7 @@ use log_passes::passing::Step;
 ghost use mathlib.Core.Path.{_≡_};
 ghost use lib.ListN.{length};
 ghost use Rattle.parts_walks.specs.Inputs.{BothWithin};
-ghost use Rattle.parts_walks.specs.Counted.{opened, answered, Turned, Walked};
+ghost use Rattle.parts_walks.specs.Counted.{countOpened, countAnswered, CountTurned, CountWalked};
 
 // Where the two stand, and what was needed last.
 pub struct Walk {
@@ -21,7 +21,7 @@ pub struct Walk {
 
 pub fn opening(inputs: Inputs) -> Walk
     requires { ⌜ BothWithin inputs ⌝ }
-    ensures { λ r. ⌜ (r ≡ opened inputs) × (BothWithin (r .inputs)) ⌝ }
+    ensures { λ r. ⌜ (r ≡ countOpened inputs) × (BothWithin (r .inputs)) ⌝ }
 {
     Walk {
         pass: passing::fresh(),
@@ -33,7 +33,7 @@ pub fn opening(inputs: Inputs) -> Walk
 // What is answered of the bytes at hand.
 fn ask(sort: Sort, pass: Pass, inputs: Inputs, first: &[u8], second: &[u8]) -> Step
     requires { ⌜ (BothWithin inputs) × (length (now first) ≡ 65536) × (length (now second) ≡ 65536) ⌝ }
-    ensures { λ r. ⌜ r ≡ answered sort pass inputs (now (first .entry)) (now (second .entry)) ⌝ }
+    ensures { λ r. ⌜ r ≡ countAnswered sort pass inputs (now (first .entry)) (now (second .entry)) ⌝ }
 {
     let f = inputs.first.at;
     let f_end = inputs.first.end;
@@ -63,7 +63,7 @@ fn read_on(need: Need) -> Wanted {
 // What is answered is done: bytes are used, or more of one log read.
 fn turn(sort: Sort, walk: Walk, first: &mut [u8], second: &mut [u8]) -> Walk
     requires { ⌜ (BothWithin (walk .inputs)) × (length (now first) ≡ 65536) × (length (now second) ≡ 65536) ⌝ }
-    ensures { λ r. ⌜ Turned sort walk (now (first .entry)) (now (second .entry)) r (now (first .exit)) (now (second .exit)) ⌝ }
+    ensures { λ r. ⌜ CountTurned sort walk (now (first .entry)) (now (second .entry)) r (now (first .exit)) (now (second .exit)) ⌝ }
 {
     let before = walk.inputs;
     let passed = walk.pass;
@@ -105,7 +105,7 @@ fn goes_on(walk: Walk) -> bool {
 // The turns are counted so that the loop ends for certain: 2^64 of them take centuries.
 pub fn all(sort: Sort, begun: Walk, first: &mut [u8], second: &mut [u8]) -> Walk
     requires { ⌜ (BothWithin (begun .inputs)) × (length (now first) ≡ 65536) × (length (now second) ≡ 65536) ⌝ }
-    ensures { λ r. ⌜ Walked sort begun (now (first .entry)) (now (second .entry)) r (now (first .exit)) (now (second .exit)) ⌝ }
+    ensures { λ r. ⌜ CountWalked sort begun (now (first .entry)) (now (second .entry)) r (now (first .exit)) (now (second .exit)) ⌝ }
 {
     let mut walk = begun;
     let mut turns: u64 = 0;

@@ -19,7 +19,7 @@ use Rattle.ring.specs.declared.Changed.{Changed}
 use Rattle.ring.specs.Ring.{ringRefusal, pushRefusal, changed, pushedBuf, stored, nextAbs}
 use Rattle.ring_window.specs.declared.Reading.the-variants as reading
 use Rattle.ring_window.specs.Statements.{FloatComesBack, NanStoredQuiet}
-use Rattle.ring_window.specs.Window.{missing, atHead, atTail, countBelow, patterns, readingOf, windowRead, floatsRead, floatsPushed, floatsPushedBuf}
+use Rattle.ring_window.specs.Window.{missingOf, atHead, atTail, countBelow, patterns, readingOf, windowRead, floatsRead, floatsPushed, floatsPushedBuf}
 
 -- ---- a count, taken apart
 
@@ -60,11 +60,11 @@ module _ (r : Ring) (capacity at back n : ℕ) where
   reading-refused k h = ap reading.Refused (sym (h .1)) ∙ sym (pick-false _ _ _ (ne-eqb (ringRefusal r capacity) 0 (h .0)))
 
   pub reading-done : (head tail : ℕ) → ringRefusal r capacity ≡ 0 → head ≡ countBelow (atHead r capacity at back) n → tail ≡ countBelow (atTail r at back) n
-      → reading.Read (missing head tail) ≡ readingOf r capacity at back n
+      → reading.Read (missingOf head tail) ≡ readingOf r capacity at back n
   unfolding readingOf
   reading-done head tail z h t =
-      ap (λ (k : ℕ). reading.Read (missing k tail)) h
-      ∙ ap (λ (k : ℕ). reading.Read (missing (countBelow (atHead r capacity at back) n) k)) t
+      ap (λ (k : ℕ). reading.Read (missingOf k tail)) h
+      ∙ ap (λ (k : ℕ). reading.Read (missingOf (countBelow (atHead r capacity at back) n) k)) t
       ∙ sym (pick-true _ _ _ (eq-eqb (ringRefusal r capacity) 0 z))
 
 module _ (r : Ring) (buf : List ℕ) (at back : ℕ) where

@@ -6,7 +6,7 @@ use Rattle.answers.specs.Pick.{pick}
 use Rattle.ring.specs.declared.Ring.{Ring}
 use Rattle.ring.specs.Ring.{ringRefusal, gotten}
 use Rattle.ring_window.specs.declared.Reading.the-variants as reading
-use Rattle.ring_window.specs.Window.{missing, listed, countBelow, readingOf, windowRead}
+use Rattle.ring_window.specs.Window.{missingOf, listed, countBelow, readingOf, windowRead}
 
 abbrev five : Ring
 five = record { accepted = 5 }
@@ -23,12 +23,12 @@ pub both-ends : windowRead five buf 4 5 eight ≡ 0 ∷ 0 ∷ 20 ∷ 30 ∷ 40 �
 unfolding windowRead listed gotten ringRefusal pick
 both-ends = refl
 
-pub both-ends-missing : readingOf five 4 4 5 8 ≡ reading.Read (missing 2 2)
+pub both-ends-missing : readingOf five 4 4 5 8 ≡ reading.Read (missingOf 2 2)
 unfolding readingOf countBelow ringRefusal pick
 both-ends-missing = refl
 
 -- all of it lies before the stream
-pub before-all : readingOf five 4 0 8 8 ≡ reading.Read (missing 8 0)
+pub before-all : readingOf five 4 0 8 8 ≡ reading.Read (missingOf 8 0)
 unfolding readingOf countBelow ringRefusal pick
 before-all = refl
 

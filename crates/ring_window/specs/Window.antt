@@ -54,14 +54,14 @@ patterns r buf at back n = listed (λ i. patternOf buf (readAt r (length buf) at
 
 -- ---- the calls. The buffer and the window are lent. A refused call writes nothing.
 
-abbrev pub missing : ℕ → ℕ → Missing
-missing head tail = record { head = head; tail = tail }
+abbrev pub missingOf : ℕ → ℕ → Missing
+missingOf head tail = record { head = head; tail = tail }
 
 unfoldable pub readingOf : Ring → ℕ → ℕ → ℕ → ℕ → Reading
 readingOf r capacity at back n =
     ifRefused (ringRefusal r capacity)
     (reading.Refused (ringRefusal r capacity))
-    (reading.Read (missing (countBelow (atHead r capacity at back) n) (countBelow (atTail r at back) n)))
+    (reading.Read (missingOf (countBelow (atHead r capacity at back) n) (countBelow (atTail r at back) n)))
 
 unfoldable pub windowRead : Ring → List ℕ → ℕ → ℕ → List ℕ → List ℕ
 windowRead r buf at back window = ifRefused (ringRefusal r (length buf)) window (patterns r buf at back (length window))

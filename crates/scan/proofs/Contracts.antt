@@ -8,7 +8,7 @@ use Rattle.scan.specs.State.{Buffers, World}
 use Rattle.scan.specs.Calls.{Observation, FarPush, NearPush, Clearing, Restart, made, resetRefusal, wasReset, pushedFar, pushedNear, observed, rearmed, discarded}
 use Rattle.scan.specs.Steps.{Report, Response, reported, near, score, rearm, discard, reset, ask, far, deed, refusalOf, changes, takes, scores, Step, step, withEnvelope, withLevels, withLagSums, called, making}
 use Rattle.answers.specs.Refusals.{none}
-use Rattle.scan.specs.Streams.{refused}
+use Rattle.scan.specs.Streams.{callRefused}
 use Rattle.scan.proofs.Laws.{if-refused-case}
 
 abbrev pub farStep : Buffers → FarPush → Step
@@ -27,7 +27,7 @@ abbrev pub resetStep : Buffers → Restart → Step
 resetStep b p = step (changes (p .changed .answer)) (p .changed .scan) (withLagSums (withEnvelope b (p .envelope)) (p .lagSums))
 
 -- a reset that is refused changes nothing
-pub reset-unchanged : (slack : ℕ) (w : World) → refused slack w (deed reset) → called slack w (deed reset) .world ≡ w
+pub reset-unchanged : (slack : ℕ) (w : World) → callRefused slack w (deed reset) → called slack w (deed reset) .world ≡ w
 unfolding called wasReset
 reset-unchanged slack w =
     if-refused-case (λ (p : Restart). (refusalOf (changes (p .changed .answer)) ≡ none → ⊥) → resetStep (w .buffers) p .world ≡ w) (resetRefusal slack (w .scan) (w .buffers .envelope) (w .buffers .lagSums)) _ _ (λ r f. refl) (λ z f. absurd (f refl))

@@ -15,7 +15,7 @@ use Rattle.scan.specs.State.{World}
 use Rattle.scan.specs.Blocks.{Heard}
 use Rattle.scan.specs.Calls.{FarPush, NearPush, Observation, Clearing, farRefusal, pushedFar, nearRefusal, pushedNear, scoreRefusal, observed, clearRefusal, rearmed, discarded}
 use Rattle.scan.specs.Steps.{near, score, rearm, discard, reset, ask, Call, far, deed, Response, refusalOf, called}
-use Rattle.scan.specs.Streams.{Item, own, foreign, refused, after, answers, heard, broughtBy, FairCall, Fair, Late, CleanCall, push, does, cleanCall, cleaned, fromTheseAlone, firstKnown, Began, resumed, factsOf}
+use Rattle.scan.specs.Streams.{Item, own, foreign, callRefused, after, answers, heard, broughtBy, FairCall, Fair, Late, CleanCall, push, does, cleanCall, cleaned, fromTheseAlone, firstKnown, Began, resumed, factsOf}
 use Rattle.scan.specs.FourFacts.{AcceptedCall, lateIn, cleanCalls, asFacts, fromFourFacts, isAccepted, acceptedCall, acceptedCalls, acceptedAnswers, fourFactsOf, ForgetsAccepted, ForgetsAcceptedTwo}
 use Rattle.scan.proofs.Laws.{pick-both, if-refused-refused}
 use Rattle.scan.proofs.Settings.{allowed}
@@ -33,7 +33,7 @@ use Rattle.scan.proofs.Forgets.{forgets}
 
 -- ---- a refused call changes nothing
 
-pub unchanged : (slack : ℕ) (w : World) (c : Call) → refused slack w c → called slack w c .world ≡ w
+pub unchanged : (slack : ℕ) (w : World) (c : Call) → callRefused slack w c → called slack w c .world ≡ w
 unfolding called pushedFar pushedNear observed rearmed discarded
 unchanged slack w (far xs) r = ap (λ (p : FarPush). farStep (w .buffers) p .world) (if-refused-refused (farRefusal slack (w .scan) (w .buffers .envelope) xs) _ _ (λ z. r (far-number slack w xs .is ∙ z)))
 unchanged slack w (deed (near x index)) r = ap (λ (p : NearPush). nearStep (w .buffers) p .world) (if-refused-refused (nearRefusal (w .scan) (w .buffers .levels) x index) _ _ (λ z. r (near-number slack w x index .is ∙ z)))

@@ -26,7 +26,7 @@ use Rattle.scan.specs.Scoring.{quiet, flat}
 use Rattle.scan.specs.Calls.{Observation, FarPush, NearPush, Clearing, Restart, frameOf, windowIn, isUncovered, isAhead, consumed, withNear, withNearVerdict, untaken, takenBy, farRefusal, pushedFar, nearRefusal, pushedNear, scoreRefusal, countedFrame, judged, scoredFrame, observed, clearing, clearRefusal, rearmed, discarded, resetRefusal, wasReset}
 use Rattle.scan.specs.Steps.{Deed, near, score, rearm, discard, reset, ask, Call, far, deed, Response, called}
 use Rattle.scan.specs.Streams.{Item, own, foreign, after, answers, Began}
-use Rattle.scan.specs.Holes.{Sample, noted, notedCall, samplesTaken, indicesOf, upFrom, sumOf, FrameInPlace, InPlace, BinInPlace, BinsInPlace, NearOnly, HoleKeeps, HoleBegins, BeginsFrame, refusalWithout, pushedWithout, calledWithout, afterWithout, answersWithout, NoHoleCall, WithoutHoles}
+use Rattle.scan.specs.Holes.{Sample, withTaken, notedCall, samplesTaken, indicesOf, upFrom, sumOfLatest, FrameInPlace, InPlace, BinInPlace, BinsInPlace, NearOnly, HoleKeeps, HoleBegins, BeginsFrame, refusalWithout, pushedWithout, calledWithout, afterWithout, answersWithout, NoHoleCall, WithoutHoles}
 use Rattle.scan.specs.declared.Geometry.{Geometry}
 use Rattle.scan.specs.declared.Near.{Near}
 use Rattle.scan.specs.declared.Verdict.{Verdict}
@@ -78,7 +78,7 @@ score-rules slack w z = ruled (w .scan) (first-passed (w .scan) _ (passed-both (
 -- ---- samples stand where their indices say
 
 -- no frame is under way
-none-in-place : (g : Geometry) (t : Seen) (past : List Sample) → t .near .len ≡ 0 → t .near .count ≡ 0 → t .near .sum ≡ sumOf (t .near .count) past → FrameInPlace g t past
+none-in-place : (g : Geometry) (t : Seen) (past : List Sample) → t .near .len ≡ 0 → t .near .count ≡ 0 → t .near .sum ≡ sumOfLatest (t .near .count) past → FrameInPlace g t past
 none-in-place g t past l c s =
     let e : taken g (t .near) ≡ 0 = omega (arith, ap (λ (k : ℕ). k * g .decimation) l) in
     record { indices = rw e; sum = s; bins = λ i h. absurd (omega arith) }
@@ -124,18 +124,18 @@ gather-in-place g t x index past p next d l k =
         let e : index ≡ firstBin g (t .near) index * g .decimation + taken g (t .near) = omega (arith, stands g (t .near) index p next d) in
         rw add-one (ap₂ {A = ℕ} {B = List ℕ} (λ (a : ℕ) (r : List ℕ). a ∷ r) e before)
 
-    total : summed (t .near .sum) x ≡ sumOf (t .near .count + 1) (record { value = x; index = index } ∷ past)
+    total : summed (t .near .sum) x ≡ sumOfLatest (t .near .count + 1) (record { value = x; index = index } ∷ past)
     total = rw add-one (ap (λ (s : Float). summed s x) (k .sum))
 
     level-at : ℕ → Float
-    level-at j = levelOf g (sumOf (g .decimation) (drop j (record { value = x; index = index } ∷ past)))
+    level-at j = levelOf g (sumOfLatest (g .decimation) (drop j (record { value = x; index = index } ∷ past)))
 
     block : t .near .count + 1 ≡ g .decimation → (i : ℕ) → (i ≡ t .near .len) ⊎ (i < t .near .len)
         → at (set (t .levels) (t .near .len) (levelOf g (summed (t .near .sum) x))) i ≡ level-at (0 + (t .near .len + 1 - 1 - i) * g .decimation)
     block e i (inl h) =
         let z : t .near .len + 1 - 1 - i ≡ 0 = omega arith in
         let y : 0 + (t .near .len + 1 - 1 - i) * g .decimation ≡ 0 = omega (arith, ap (λ (j : ℕ). j * g .decimation) z) in
-        rw (y, h) (getD-set-same (t .levels) (t .near .len) _ nan l ∙ ap (levelOf g) (total ∙ ap (λ (j : ℕ). sumOf j (record { value = x; index = index } ∷ past)) e))
+        rw (y, h) (getD-set-same (t .levels) (t .near .len) _ nan l ∙ ap (levelOf g) (total ∙ ap (λ (j : ℕ). sumOfLatest j (record { value = x; index = index } ∷ past)) e))
     block e i (inr h) =
         let z : t .near .len + 1 - 1 - i ≡ t .near .len - 1 - i + 1 = omega arith in
         let y : 0 + (t .near .len + 1 - 1 - i) * g .decimation ≡ suc (t .near .count + (t .near .len - 1 - i) * g .decimation) = omega (arith, ap (λ (j : ℕ). j * g .decimation) z, add-mul (t .near .len - 1 - i) 1 (g .decimation), one-mul (g .decimation)) in
@@ -169,7 +169,7 @@ module _ (slack : ℕ) (w : World) (past : List Sample) (k : FrameInPlace (w .sc
 
   near-in-place : (x : Float) (index : ℕ)
       → let p = pushedNear (w .scan) (w .buffers .levels) x index in
-      FrameInPlace (p .took .scan .geometry) (record { near = p .took .scan .near; levels = p .levels }) (noted (p .took .answer) (record { value = x; index = index }) past)
+      FrameInPlace (p .took .scan .geometry) (record { near = p .took .scan .near; levels = p .levels }) (withTaken (p .took .answer) (record { value = x; index = index }) past)
   unfolding pushedNear nearRefusal
   near-in-place x index =
       if-refused-case P (nearRefusal (w .scan) (w .buffers .levels) x index) _ _ (λ r. k)
@@ -181,10 +181,10 @@ module _ (slack : ℕ) (w : World) (past : List Sample) (k : FrameInPlace (w .sc
       let q = first-passed (w .scan) _ (passed-both (firstRefusals (w .scan) _) _ z .0) in
       let e = follows-by (w .scan) (q .rules) in
       let t = took x index d r c e (subst (λ (h : Geometry). 0 < h .frame) (sym e) (wide (due (w .scan)) (allowed _ _ (q .inside)))) in
-      pick-all (λ (a : Taking). FrameInPlace g (gather g (record { near = m; levels = w .buffers .levels }) x index) (noted a (record { value = x; index = index }) past)) _ _ _ t t)))
+      pick-all (λ (a : Taking). FrameInPlace g (gather g (record { near = m; levels = w .buffers .levels }) x index) (withTaken a (record { value = x; index = index }) past)) _ _ _ t t)))
     where
       P : NearPush → Type 0
-      P p = FrameInPlace (p .took .scan .geometry) (record { near = p .took .scan .near; levels = p .levels }) (noted (p .took .answer) (record { value = x; index = index }) past)
+      P p = FrameInPlace (p .took .scan .geometry) (record { near = p .took .scan .near; levels = p .levels }) (withTaken (p .took .answer) (record { value = x; index = index }) past)
 
   -- the frame is consumed
   scored-in-place : scoreRefusal slack w ≡ 0 → There (scoreStep (scoredFrame slack w) .world)

@@ -30,15 +30,15 @@ pub record Sample : Type 0 where
   pub index : ℕ
 
 -- a sample is taken where the answer says so
-abbrev pub noted : Taking → Sample → List Sample → List Sample
-noted (taking.Refused n) x past = past
-noted taking.Ignored x past = past
-noted taking.Dropped x past = past
-noted taking.Taken x past = x ∷ past
-noted taking.Full x past = x ∷ past
+abbrev pub withTaken : Taking → Sample → List Sample → List Sample
+withTaken (taking.Refused n) x past = past
+withTaken taking.Ignored x past = past
+withTaken taking.Dropped x past = past
+withTaken taking.Taken x past = x ∷ past
+withTaken taking.Full x past = x ∷ past
 
 abbrev pub notedDeed : World → Deed → List Sample → List Sample
-notedDeed w (near x index) past = noted (pushedNear (w .scan) (w .buffers .levels) x index .took .answer) (record { value = x; index = index }) past
+notedDeed w (near x index) past = withTaken (pushedNear (w .scan) (w .buffers .levels) x index .took .answer) (record { value = x; index = index }) past
 notedDeed w score past = past
 notedDeed w rearm past = past
 notedDeed w discard past = past
@@ -67,17 +67,17 @@ upFrom a zero = []
 upFrom a (suc n) = (a + n) ∷ upFrom a n
 
 -- the running sum of the n latest samples, in the order in which they came
-abbrev pub sumOf : ℕ → List Sample → Float
-sumOf zero past = zero64
-sumOf (suc n) [] = zero64
-sumOf (suc n) (x ∷ past) = summed (sumOf n past) (x .value)
+abbrev pub sumOfLatest : ℕ → List Sample → Float
+sumOfLatest zero past = zero64
+sumOfLatest (suc n) [] = zero64
+sumOfLatest (suc n) (x ∷ past) = summed (sumOfLatest n past) (x .value)
 
 -- The samples of the frame under way are the latest that were taken. The first of them has the index first bin x decimation, and each later one the next. Bin i is the level of the
 -- samples numbered i x decimation to i x decimation + decimation - 1 of the frame: with indices of block first + i, which far block first + i has too.
 pub record FrameInPlace (g : Geometry) (t : Seen) (past : List Sample) : Type 0 where
   pub indices : take (taken g (t .near)) (indicesOf past) ≡ upFrom (t .near .first * g .decimation) (taken g (t .near))
-  pub sum : t .near .sum ≡ sumOf (t .near .count) past
-  pub bins : (i : ℕ) → i < t .near .len → at (t .levels) i ≡ levelOf g (sumOf (g .decimation) (drop (t .near .count + (t .near .len - 1 - i) * g .decimation) past))
+  pub sum : t .near .sum ≡ sumOfLatest (t .near .count) past
+  pub bins : (i : ℕ) → i < t .near .len → at (t .levels) i ≡ levelOf g (sumOfLatest (g .decimation) (drop (t .near .count + (t .near .len - 1 - i) * g .decimation) past))
 
 -- over any list of calls, resets and samples of any kind among them
 abbrev pub InPlace : Type 0
@@ -90,7 +90,7 @@ InPlace =
 pub record BinInPlace (g : Geometry) (t : Seen) (past : List Sample) (i : ℕ) : Type 0 where
   -- the latest samples, but for those after the bin
   pub from : ℕ
-  pub level : at (t .levels) i ≡ levelOf g (sumOf (g .decimation) (drop from past))
+  pub level : at (t .levels) i ≡ levelOf g (sumOfLatest (g .decimation) (drop from past))
   pub indices : take (g .decimation) (indicesOf (drop from past)) ≡ upFrom ((t .near .first + i) * g .decimation) (g .decimation)
 
 abbrev pub BinsInPlace : Type 0

@@ -28,8 +28,8 @@ pub data Item : Type 0 where
   own : Call → Item
   foreign : World → Call → Item
 
-abbrev pub refused : ℕ → World → Call → Type 0
-refused slack w c = refusalOf (called slack w c .response) ≡ none → ⊥
+abbrev pub callRefused : ℕ → World → Call → Type 0
+callRefused slack w c = refusalOf (called slack w c .response) ≡ none → ⊥
 
 abbrev pub accepted : ℕ → World → Call → Type 0
 accepted slack w c = refusalOf (called slack w c .response) ≡ none
@@ -69,7 +69,7 @@ FairDeed slack w (near x index) = T (fits binary32 x)
 FairDeed slack w score = Unit {0}
 FairDeed slack w rearm = Unit {0}
 FairDeed slack w discard = Unit {0}
-FairDeed slack w reset = refused slack w (deed reset)
+FairDeed slack w reset = callRefused slack w (deed reset)
 FairDeed slack w (ask r) = Unit {0}
 
 abbrev pub FairCall : ℕ → World → Call → Type 0
@@ -80,7 +80,7 @@ FairCall slack w (deed d) = FairDeed slack w d
 abbrev pub Fair : ℕ → World → List Item → Type 0
 Fair slack w [] = Unit {0}
 Fair slack w (own c ∷ items) = FairCall slack w c × Fair slack (called slack w c .world) items
-Fair slack w (foreign v c ∷ items) = refused slack v c × Fair slack w items
+Fair slack w (foreign v c ∷ items) = callRefused slack v c × Fair slack w items
 
 -- the sample begins a frame: no frame is under way, or one that it drops by a hole
 abbrev pub begins : Scan → ℕ → Bool

@@ -17,7 +17,7 @@ use Rattle.scan.specs.Told.{takingTold, scoringTold, regionTold, levelTold, sam
 use Rattle.scan.specs.declared.Changed.{Changed}
 use Rattle.scan_score.specs.Observing.{lent, world}
 use Rattle.scan_words.specs.Layout.{scanWords, loaded}
-use Rattle.scan_words.specs.Answers.{frameValues, regionValues, changedWords, tookWords, scoredWords, scoringGiven, levelGiven, levelPattern, regionGiven, correlationPattern}
+use Rattle.scan_words.specs.Answers.{frameValues, regionValueCount, changedWords, tookWords, scoredWords, scoringGiven, levelGiven, levelPattern, regionGiven, correlationPattern}
 use Rattle.face.specs.Face.{Left, left, settingFirst, judged, unlessRefused}
 
 -- the length of what is lent, by rate and ceiling; 0 where one is outside the table
@@ -129,7 +129,7 @@ correlationCalled ws vs =
 unfoldable pub regionCalled : List ℕ → List ℕ → Left (Unit {0})
 regionCalled ws vs =
     let report = regionOf (loaded ws) in
-    unlessRefused (judgedScan ws (fits regionValues vs)) ws vs tt (left (number (regionTold report)) ws (regionGiven vs (correlationPattern ws) report) tt)
+    unlessRefused (judgedScan ws (fits regionValueCount vs)) ws vs tt (left (number (regionTold report)) ws (regionGiven vs (correlationPattern ws) report) tt)
 
 abbrev pub flagCalled : List ℕ → Flag → Left (Unit {0})
 flagCalled ws report = unlessRefused (judgedScan ws true) ws [] tt (left (number (flagTold report)) ws [] tt)

@@ -16,7 +16,7 @@ use Rattle.scan.specs.FourFacts.{AcceptedCall, acceptedCall, acceptedCalls, acc
 use Rattle.scan.proofs.Forgets.{forgets}
 use Rattle.scan.proofs.FourFacts.{forgets-accepted}
 use Rattle.scan_forgets.specs.Happened.{Answered, one, byRules, Happened, Begun, made, afresh}
-use Rattle.scan_forgets.specs.Statement.{FairCall, Fair, LateCall, Late, Ran, answersIn, heardIn, broughtIn, cleanedIn, factsIn, acceptedIn, acceptedAnswersIn, fourFactsIn, CodeForgets, CodeForgetsAccepted}
+use Rattle.scan_forgets.specs.Statement.{FairReply, FairRun, LateReply, LateRun, Ran, answersIn, heardIn, broughtIn, cleanedIn, factsIn, acceptedIn, acceptedAnswersIn, fourFactsIn, CodeForgets, CodeForgetsAccepted}
 use Rattle.scan_forgets.proofs.Made.{new-steps}
 use Rattle.scan_forgets.proofs.Runs.{afterCalls}
 use Rattle.scan_forgets.proofs.Followed.{Followed, followed, in-turn}
@@ -63,7 +63,7 @@ accepted-answers-are (c ∷ calls) w = ap (λ (l : List Response). pick (eqb (re
 
 -- ---- what the calls keep to
 
-fair-call : (c : Call) (w : World) → FairCall c (called fullSlack w c .response) → streams.FairCall fullSlack w c
+fair-call : (c : Call) (w : World) → FairReply c (called fullSlack w c .response) → streams.FairCall fullSlack w c
 fair-call (far xs) w f = f
 fair-call (deed (near x index)) w f = f
 fair-call (deed score) w f = tt
@@ -72,12 +72,12 @@ fair-call (deed discard) w f = tt
 fair-call (deed reset) w f = f
 fair-call (deed (ask q)) w f = tt
 
-fair-are : (calls : List Call) (w : World) → Fair (byRules w calls) → streams.Fair fullSlack w (owned calls)
+fair-are : (calls : List Call) (w : World) → FairRun (byRules w calls) → streams.Fair fullSlack w (owned calls)
 unfolding byRules
 fair-are [] w f = tt
 fair-are (c ∷ calls) w f = (fair-call c w (f .0), fair-are calls (called fullSlack w c .world) (f .1))
 
-late-call : (block : ℕ) (c : Call) (w : World) → LateCall block w c (called fullSlack w c .response) → streams.LateCall fullSlack block w c
+late-call : (block : ℕ) (c : Call) (w : World) → LateReply block w c (called fullSlack w c .response) → streams.LateCall fullSlack block w c
 late-call block (far xs) w l = tt
 late-call block (deed (near x index)) w l = l
 late-call block (deed score) w l = tt
@@ -86,7 +86,7 @@ late-call block (deed discard) w l = tt
 late-call block (deed reset) w l = tt
 late-call block (deed (ask q)) w l = tt
 
-late-are : (block : ℕ) (calls : List Call) (w : World) → Late block (byRules w calls) → streams.Late fullSlack block w (owned calls)
+late-are : (block : ℕ) (calls : List Call) (w : World) → LateRun block (byRules w calls) → streams.Late fullSlack block w (owned calls)
 unfolding byRules
 late-are block [] w l = tt
 late-are block (c ∷ calls) w l = (late-call block c w (l .0), late-are block calls (called fullSlack w c .world) (l .1))
@@ -124,12 +124,12 @@ began rate ceiling w (afresh v _ r p q h a) =
 pub record Traced (rate ceiling block : ℕ) (w e v u : World) (earlier later : List Answered) : Type 0 where
   pub began : Began fullSlack rate ceiling w
   pub before : Followed w earlier e
-  pub fair : Fair earlier
+  pub fair : FairRun earlier
   pub rearms : refusalOf (called fullSlack e (deed rearm) .response) ≡ none
   pub resumes : called fullSlack e (deed rearm) .world ≡ v
   pub since : Followed v later u
-  pub fairSince : Fair later
-  pub late : Late block later
+  pub fairSince : FairRun later
+  pub late : LateRun block later
 
 pub traced : {rate ceiling block : ℕ} {w e v u : World} {earlier later : List Answered} → Ran rate ceiling block w e v u earlier later → Traced rate ceiling block w e v u earlier later
 traced {rate} {ceiling} {block} {w} r =
@@ -162,10 +162,10 @@ module _ (rate ceiling block : ℕ) (w e v u : World) (earlier later : List Answ
   stream =
       record {
         began = r .began;
-        fair = fair-are before w (subst Fair (r .before .answered) (r .fair));
+        fair = fair-are before w (subst FairRun (r .before .answered) (r .fair));
         rearms = ap (λ (z : World). refusalOf (called fullSlack z (deed rearm) .response)) at ∙ r .rearms;
-        fairSince = subst (λ (z : World). streams.Fair fullSlack z (owned since)) (sym resumes) (fair-are since v (subst Fair (r .since .answered) (r .fairSince)));
-        late = subst (λ (z : World). streams.Late fullSlack block z (owned since)) (sym resumes) (late-are block since v (subst (Late block) (r .since .answered) (r .late)));
+        fairSince = subst (λ (z : World). streams.Fair fullSlack z (owned since)) (sym resumes) (fair-are since v (subst FairRun (r .since .answered) (r .fairSince)));
+        late = subst (λ (z : World). streams.Late fullSlack block z (owned since)) (sym resumes) (late-are block since v (subst (LateRun block) (r .since .answered) (r .late)));
       }
 
   -- ---- its facts and answers

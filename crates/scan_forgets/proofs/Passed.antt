@@ -17,7 +17,7 @@ use Rattle.scan.proofs.Laws.{pick-both}
 use Rattle.scan_runs.specs.declared.Ran.{Ran}
 use Rattle.scan_runs.specs.Runs.{Run, rests, further, ran}
 use Rattle.scan_forgets.specs.Happened.{Answered, byRules}
-use Rattle.scan_forgets.specs.Statement.{Fair, Late, answersIn, cleanedIn, factsIn, passing, tried, cleanAfter, CodeForgetsPassed}
+use Rattle.scan_forgets.specs.Statement.{FairRun, LateRun, answersIn, cleanedIn, factsIn, passing, tried, cleanAfter, CodeForgetsPassed}
 use Rattle.scan_forgets.proofs.Runs.{afterCalls}
 use Rattle.scan_forgets.proofs.Followed.{then}
 use Rattle.scan_forgets.proofs.Forgets.{Traced, traced, traced-forgets}
@@ -34,11 +34,11 @@ unfolding cleanedIn
 cleaned-append known [] more = refl
 cleaned-append known (a ∷ t) more = ap (λ (l : List CleanCall). cleanCall known (a .handed) (a .call) ∷ l) (cleaned-append known t more)
 
-fair-append : (t more : List Answered) → Fair t → Fair more → Fair (t ++ more)
+fair-append : (t more : List Answered) → FairRun t → FairRun more → FairRun (t ++ more)
 fair-append [] more f g = g
 fair-append (a ∷ t) more f g = (f .0, fair-append t more (f .1) g)
 
-late-append : (block : ℕ) (t more : List Answered) → Late block t → Late block more → Late block (t ++ more)
+late-append : (block : ℕ) (t more : List Answered) → LateRun block t → LateRun block more → LateRun block (t ++ more)
 late-append block [] more f g = g
 late-append block (a ∷ t) more f g = (f .0, late-append block t more (f .1) g)
 

@@ -18,7 +18,7 @@ use Rattle.scan_runs.specs.Runs.{Run, passes, rests, further, ran}
 use Rattle.scan_runs.proofs.push_near_run.Kinds as push-near-run-kinds
 use Rattle.scan_runs.proofs.push_near_run.Reads as push-near-run-reads
 use Rattle.scan_score.specs.Observing.{world}
-use Rattle.scan_forgets.specs.Happened.{Return, Answered, singly, byRules}
+use Rattle.scan_forgets.specs.Happened.{Return, Answered, asSingles, byRules}
 
 -- the world after calls in turn
 unfoldable pub afterCalls : World → List Call → World
@@ -38,11 +38,11 @@ abbrev ranIn : World → List Float → ℕ → Run
 ranIn w xs index = ran (w .scan) (w .buffers .levels) xs index
 
 pub record Single (w : World) (xs : List Float) (index : ℕ) (r : Run) : Type 0 where
-  pub ends : afterCalls w (singly (take (r .passed) xs) index) ≡ ranWorld w r
-  pub passes : Passes (byRules w (singly (take (r .passed) xs) index))
+  pub ends : afterCalls w (asSingles (take (r .passed) xs) index) ≡ ranWorld w r
+  pub passes : Passes (byRules w (asSingles (take (r .passed) xs) index))
 
 pub single : (xs : List Float) (w : World) (index : ℕ) → Single w xs index (ranIn w xs index)
-unfolding ran afterCalls singly byRules called
+unfolding ran afterCalls asSingles byRules called
 single [] w index = record { ends = refl; passes = tt }
 single (x ∷ xs) w index =
     let p = pushedNear (w .scan) (w .buffers .levels) x index in

@@ -71,9 +71,9 @@ abbrev pub one : World → Call → Response → List Answered
 one w c r = record { handed = w; call = c; response = r } ∷ []
 
 -- near samples of consecutive indices, each as a call of its own
-unfoldable pub singly : List Float → ℕ → List Call
-singly [] index = []
-singly (x ∷ xs) index = deed (near x index) ∷ singly xs (nextLongCount index)
+unfoldable pub asSingles : List Float → ℕ → List Call
+asSingles [] index = []
+asSingles (x ∷ xs) index = deed (near x index) ∷ asSingles xs (nextLongCount index)
 
 -- calls in turn as the rules answer them
 unfoldable pub byRules : World → List Call → List Answered
@@ -90,7 +90,7 @@ pub data Happened : World → List Answered → World → Type 0 where
   by-push-near : (f : Return 1 push-near-kinds.ps push-near-kinds.r push-near-reads.Post) (w : World) → w .scan ≡ f .given .0 → w .buffers .levels ≡ now (f .given .1 .0)
       → Happened w (one w (deed (near (f .given .1 .1 .0) (f .given .1 .1 .1 .0))) (takes (f .result .answer))) (world (f .result .scan) (withLevels (w .buffers) (now (f .left .1 .0))))
   by-push-near-run : (f : Return 2 push-near-run-kinds.ps push-near-run-kinds.r push-near-run-reads.Post) (w : World) → w .scan ≡ f .given .0 → w .buffers .levels ≡ now (f .given .1 .0)
-      → Happened w (byRules w (singly (take (f .result .passed) (now (f .given .1 .1 .0))) (f .given .1 .1 .1 .0))) (world (f .result .scan) (withLevels (w .buffers) (now (f .left .1 .0))))
+      → Happened w (byRules w (asSingles (take (f .result .passed) (now (f .given .1 .1 .0))) (f .given .1 .1 .1 .0))) (world (f .result .scan) (withLevels (w .buffers) (now (f .left .1 .0))))
   by-observe : (f : Return 7 observe-kinds.ps observe-kinds.r observe-reads.Post) (w : World) → w .scan ≡ f .given .0
       → w .buffers
       ≡ lent (now (f .given .1 .0)) (now (f .given .1 .1 .0)) (now (f .given .1 .1 .1 .0)) (now (f .given .1 .1 .1 .1 .0)) (now (f .given .1 .1 .1 .1 .1 .0)) (now (f .given .1 .1 .1 .1 .1 .1 .0)) (now (f .given .1 .1 .1 .1 .1 .1 .1 .0))

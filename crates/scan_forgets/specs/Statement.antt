@@ -23,32 +23,32 @@ use Rattle.scan_forgets.specs.Happened.{Return, Answered, one, byRules, 
 -- ---- what the calls keep to
 
 -- samples are of the type f32, and no reset was accepted
-abbrev pub FairCall : Call → Response → Type 0
-FairCall (far xs) r = AllF32 xs
-FairCall (deed (near x index)) r = T (fits binary32 x)
-FairCall (deed score) r = Unit {0}
-FairCall (deed rearm) r = Unit {0}
-FairCall (deed discard) r = Unit {0}
-FairCall (deed reset) r = refusalOf r ≡ none → ⊥
-FairCall (deed (ask q)) r = Unit {0}
+abbrev pub FairReply : Call → Response → Type 0
+FairReply (far xs) r = AllF32 xs
+FairReply (deed (near x index)) r = T (fits binary32 x)
+FairReply (deed score) r = Unit {0}
+FairReply (deed rearm) r = Unit {0}
+FairReply (deed discard) r = Unit {0}
+FairReply (deed reset) r = refusalOf r ≡ none → ⊥
+FairReply (deed (ask q)) r = Unit {0}
 
-abbrev pub Fair : List Answered → Type 0
-Fair [] = Unit {0}
-Fair (a ∷ rest) = FairCall (a .call) (a .response) × Fair rest
+abbrev pub FairRun : List Answered → Type 0
+FairRun [] = Unit {0}
+FairRun (a ∷ rest) = FairReply (a .call) (a .response) × FairRun rest
 
 -- a near sample that was accepted and begins a frame carries an index of at least (block + span) x decimation
-abbrev pub LateCall : ℕ → World → Call → Response → Type 0
-LateCall block w (far xs) r = Unit {0}
-LateCall block w (deed (near x index)) r = refusalOf r ≡ none → T (begins (w .scan) index) → (block + w .scan .geometry .span) * w .scan .geometry .decimation ≤ index
-LateCall block w (deed score) r = Unit {0}
-LateCall block w (deed rearm) r = Unit {0}
-LateCall block w (deed discard) r = Unit {0}
-LateCall block w (deed reset) r = Unit {0}
-LateCall block w (deed (ask q)) r = Unit {0}
+abbrev pub LateReply : ℕ → World → Call → Response → Type 0
+LateReply block w (far xs) r = Unit {0}
+LateReply block w (deed (near x index)) r = refusalOf r ≡ none → T (begins (w .scan) index) → (block + w .scan .geometry .span) * w .scan .geometry .decimation ≤ index
+LateReply block w (deed score) r = Unit {0}
+LateReply block w (deed rearm) r = Unit {0}
+LateReply block w (deed discard) r = Unit {0}
+LateReply block w (deed reset) r = Unit {0}
+LateReply block w (deed (ask q)) r = Unit {0}
 
-abbrev pub Late : ℕ → List Answered → Type 0
-Late block [] = Unit {0}
-Late block (a ∷ rest) = LateCall block (a .handed) (a .call) (a .response) × Late block rest
+abbrev pub LateRun : ℕ → List Answered → Type 0
+LateRun block [] = Unit {0}
+LateRun block (a ∷ rest) = LateReply block (a .handed) (a .call) (a .response) × LateRun block rest
 
 -- ---- a run of the code with a rearm
 
@@ -56,13 +56,13 @@ Late block (a ∷ rest) = LateCall block (a .handed) (a .call) (a .response) × 
 pub record Ran (rate ceiling block : ℕ) (w e v u : World) (earlier later : List Answered) : Type 0 where
   pub begun : Begun rate ceiling w
   pub before : InTurn w earlier e
-  pub fair : Fair earlier
+  pub fair : FairRun earlier
   pub answer : Response
   pub rearm : Happened e (one e (deed rearm) answer) v
   pub rearms : refusalOf answer ≡ none
   pub since : InTurn v later u
-  pub fairSince : Fair later
-  pub late : Late block later
+  pub fairSince : FairRun later
+  pub late : LateRun block later
 
 -- ---- its answers and its facts
 
@@ -163,4 +163,4 @@ CodeForgetsPassed =
     → (f : Return 2 push-near-run-kinds.ps push-near-run-kinds.r push-near-run-reads.Post) → u .scan ≡ f .given .0 → u .buffers .levels ≡ now (f .given .1 .0)
     → let xs = now (f .given .1 .1 .0) in
     let first = f .given .1 .1 .1 .0 in
-    Fair (byRules u (tried u xs first)) → Late block (byRules u (tried u xs first)) → f .result .passed ≡ passedAfter (factsIn rate ceiling block w earlier later) xs first
+    FairRun (byRules u (tried u xs first)) → LateRun block (byRules u (tried u xs first)) → f .result .passed ≡ passedAfter (factsIn rate ceiling block w earlier later) xs first

@@ -47,19 +47,19 @@ pub record FillsFour (g : Geometry) (n : Near) (levels xs : List Float) (index :
   pub four : length xs ≡ 4 * g .decimation
 
 -- k samples are of one block, or are four whole ones
-abbrev pub Shaped : Geometry → Near → ℕ → Type 0
-Shaped g n k = g .decimation < n .count + k → (n .count ≡ 0) × (k ≡ 4 * g .decimation)
+abbrev pub NearShaped : Geometry → Near → ℕ → Type 0
+NearShaped g n k = g .decimation < n .count + k → (n .count ≡ 0) × (k ≡ 4 * g .decimation)
 
 pub record FillsRun (g : Geometry) (n : Near) (levels xs : List Float) (index : ℕ) : Type 0 where
   pub all : Fills g n levels xs index
   pub some : 0 < length xs
-  pub shaped : Shaped g n (length xs)
+  pub shaped : NearShaped g n (length xs)
 
 -- so many of the samples left
 pub record Reach (g : Geometry) (n : Near) (left k : ℕ) : Type 0 where
   pub some : 0 < k
   pub within : k ≤ left
-  pub shaped : Shaped g n k
+  pub shaped : NearShaped g n k
 
 -- those of a run from one place up to another
 pub record FillsBetween (g : Geometry) (n : Near) (levels xs : List Float) (first from end : ℕ) : Type 0 where

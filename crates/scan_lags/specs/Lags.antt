@@ -56,7 +56,7 @@ pub record Advanced (f : ℕ → Float → Float) (k r live : ℕ) (before after
   pub counts : (old : List Float) → Rewritten f old k before → aboveIn old r ≡ aboveIn old k + live
 
 -- the lists have the lengths that the frame and the window give them
-pub record Lengths (levels window prefix squares scores : List Float) : Type 0 where
+pub record RoomFits (levels window prefix squares scores : List Float) : Type 0 where
   pub frame : length levels ≤ 2 ^ 53
   pub sums : length prefix ≡ length window + 1
   pub energies : length squares ≡ length window + 1

@@ -11,7 +11,7 @@ ghost use Rattle.folds.specs.Sums.{table, at, zeros, prefixSums, prefixSquares}
 ghost use Rattle.folds.specs.Rewriting.{Rewritten};
 ghost use Rattle.root_table.specs.Guesses.{Table};
 ghost use Rattle.scan.specs.Scoring.{meanOf, centred, nearEnergy, energyFloor, scoreAt, liveLags};
-ghost use Rattle.scan_lags.specs.Lags.{Starts, energyFrom, productsOf, scoreBy, scoreFrom, above, aboveIn, Inside, Advanced, Lengths};
+ghost use Rattle.scan_lags.specs.Lags.{Starts, energyFrom, productsOf, scoreBy, scoreFrom, above, aboveIn, Inside, Advanced, RoomFits};
 use floats::square_root_with;
 use folds::prefixes;
 use folds::sum;
@@ -310,7 +310,7 @@ pub fn write_scores(
     squares: &mut [f64],
     scores: &mut [f64],
 ) -> u64
-    requires { ⌜ Lengths (now levels) (now window) (now prefix) (now squares) (now scores) ⌝ }
+    requires { ⌜ RoomFits (now levels) (now window) (now prefix) (now squares) (now scores) ⌝ }
     ensures prefix { λ _. ⌜ now (prefix .exit) ≡ prefixSums (now (window .entry)) ⌝ }
     ensures squares { λ _. ⌜ now (squares .exit) ≡ prefixSquares (now (window .entry)) ⌝ }
     ensures scores { λ _. ⌜ now (scores .exit) ≡ table (scoreAt (now (levels .entry)) (now (window .entry))) (length (now (scores .entry))) ⌝ }

@@ -14,7 +14,7 @@ use Rattle.scan.specs.declared.Scan.{Scan}
 use Rattle.scan.proofs.Scratch.{ScratchAlike, called-scratch}
 use Rattle.scan_pair.specs.State.{Side, first, second, Named, channel, unknown, named, PairWorld, seen}
 use Rattle.scan_pair.specs.Steps.{Own, near, score, rearm, discard, ask, PairCall, on, far, reset, settings, pairCalled}
-use Rattle.scan_pair.specs.Streams.{PairItem, own, foreign, pairAfter, Share, its, others, ownShare, share, withAnswer, answersTo, F32Call, F32Items, NoReset, PairFair, withItem, itemsOf, pairBrought, pairHeard, withClean, pairCleaned, LateShare, PairLate}
+use Rattle.scan_pair.specs.Streams.{PairItem, own, foreign, pairAfter, Share, its, others, ownShare, share, withAnswer, answersTo, PairF32Call, F32Items, NoReset, PairFair, withItem, itemsOf, pairBrought, pairHeard, withClean, pairCleaned, LateShare, PairLate}
 use Rattle.scan_pair.proofs.Together.{PairSound, reset-accepts}
 use Rattle.scan_pair.proofs.Steps.{alike-between, Stepped, fair-own, stepped, stays-sound}
 
@@ -75,7 +75,7 @@ module _ (slack : ℕ) (w : PairWorld) (d : Side) (v : World) (h : ScratchAlike 
 
   -- a fair call is a fair call of the scan: a reset would have been accepted
   abbrev FairToo : PairCall → Share → Type 0
-  FairToo c (its b) = F32Call c → NoReset slack w c → FairCall slack v b
+  FairToo c (its b) = PairF32Call c → NoReset slack w c → FairCall slack v b
   FairToo c others = Unit {0}
 
   own-fair : (c : ℕ) (e : Side) (n : Named) (k : Own) → FairToo (on c k) (ownShare e n k)
@@ -99,7 +99,7 @@ module _ (slack : ℕ) (w : PairWorld) (d : Side) (v : World) (h : ScratchAlike 
       let w' = pairCalled slack w c .world in
       Projected slack d (withAnswer z (pairCalled slack w c .response) (answersTo d slack w' items)) (pairBrought slack w c ++ pairHeard slack w' items)
       (λ known. withClean known u z (pairCleaned d slack known w' items)) (pairAfter slack w' items)
-      (F32Call c × NoReset slack w c × PairFair slack w' items) (λ block. LateShare slack block u z × PairLate d slack block w' items) v (withItem z (itemsOf d items))
+      (PairF32Call c × NoReset slack w c × PairFair slack w' items) (λ block. LateShare slack block u z × PairLate d slack block w' items) v (withItem z (itemsOf d items))
 
   one-more : (c : PairCall) (items : List PairItem) (z : Share) → Stepped slack w d (pairCalled slack w c) z → Brings c z → FairToo c z
       → ((v' : World) → ScratchAlike (seen (pairCalled slack w c .world) d) v' → ProjectedBy slack d (pairCalled slack w c .world) items v') → OneMore c items z

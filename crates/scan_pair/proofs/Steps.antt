@@ -11,7 +11,7 @@ use Rattle.scan.proofs.Fresh.{reset-sound}
 use Rattle.scan.proofs.Scratch.{ScratchAlike, lending, around}
 use Rattle.scan_pair.specs.State.{Side, first, second, other, Named, channel, unknown, named, PairWorld, seen}
 use Rattle.scan_pair.specs.Steps.{Own, near, score, rearm, discard, ask, PairCall, on, far, reset, settings, asDeed, PairStep, ownCalled, pairCalled}
-use Rattle.scan_pair.specs.Streams.{Share, its, others, ownShare, share, F32Own, F32Call}
+use Rattle.scan_pair.specs.Streams.{Share, its, others, ownShare, share, F32Own, PairF32Call}
 use Rattle.scan_pair.proofs.Channels.{ByItsOwn, by-its-own, other-stays, stays-alike, unknown-refused}
 use Rattle.scan_pair.proofs.Together.{PairSound, far-together, setting-together, reset-together, reset-accepts}
 
@@ -91,7 +91,7 @@ module _ (slack : ℕ) (w : PairWorld) where
     own-sound first unknown k f = sound-alike slack (seen w first) _ (unknown-alike first k) (s first)
     own-sound second unknown k f = sound-alike slack (seen w second) _ (unknown-alike second k) (s second)
 
-    pub stays-sound : (c : PairCall) → F32Call c → PairSound slack (pairCalled slack w c .world)
+    pub stays-sound : (c : PairCall) → PairF32Call c → PairSound slack (pairCalled slack w c .world)
     stays-sound (on c k) f d = (unfold pairCalled in own-sound d (named c) k f)
     stays-sound (far xs) f d = subst (Sound slack) (sym (far-together slack w d xs (rules-hold slack (seen w d) (s d)) .world)) (called-sound slack (seen w d) (s d) (base.far xs) f)
     stays-sound reset f d = subst (Sound slack) (sym (reset-together slack w d (reset-accepts slack w s) .world)) (reset-sound slack (seen w d) (s d))

@@ -30,7 +30,7 @@ use Rattle.scan.proofs.Laws.{if-refused-case, if-refused-both, both-and, both-l
 use Rattle.scan.proofs.Sound.{Sound, rules-hold}
 use Rattle.scan.proofs.Accepted.{first-passed}
 use Rattle.scan.proofs.Contracts.{farStep, resetStep}
-use Rattle.scan_pair.specs.State.{Side, first, second, PairBuffers, PairWorld, chosen, withFar, common, buffersOf, seen}
+use Rattle.scan_pair.specs.State.{Side, first, second, PairBuffers, PairWorld, chosen, pairWithFar, common, buffersOf, seen}
 use Rattle.scan_pair.specs.Calls.{PairRestart, bothAnew, bothLengths, pairMakingRefusal, pairMade, pairResetRefusal, pairReset, pairFar, pairBinSamples, pairCeilingSamples}
 use Rattle.scan_pair.specs.Steps.{Setting, «bin_samples», «ceiling_samples», far, reset, settings, asSetting, pairStep, settingReported, withPairEnvelope, restartStep, pairCalled, pairMaking}
 use Rattle.scan_pair.specs.Streams.{pairAccepted}
@@ -53,7 +53,7 @@ far-judged slack w xs =
     ∙ ap (λ (m : ℕ). before m (require (leb (w .pair .far .accepted + length xs) limit) tooLarge (require (allFinite xs) notFinite none))) (common-judges (w .pair) _)
 
 pub far-seen : (w : PairWorld) (d : Side) (f : Far) (e : List Float)
-    → seen (record { pair = withFar (w .pair) f; buffers = withPairEnvelope (w .buffers) e }) d ≡ record { scan = base-calls.withFar (seen w d .scan) f; buffers = withEnvelope (seen w d .buffers) e }
+    → seen (record { pair = pairWithFar (w .pair) f; buffers = withPairEnvelope (w .buffers) e }) d ≡ record { scan = base-calls.withFar (seen w d .scan) f; buffers = withEnvelope (seen w d .buffers) e }
 far-seen w first f e = refl
 far-seen w second f e = refl
 
@@ -65,7 +65,7 @@ module _ (slack : ℕ) (w : PairWorld) (d : Side) (xs : List Float) where
   pushed s n = ifRefused n (record { changed = changedBy (change.Refused n) s; envelope = e }) (heardBy s (hearAll slack (s .geometry) (record { far = s .far; envelope = e }) xs))
 
   abbrev Alike : FarPush → FarPush → Type 0
-  Alike q t = ByItsOwn d (pairStep (changes (q .changed .answer)) (withFar (w .pair) (q .changed .scan .far)) (withPairEnvelope (w .buffers) (q .envelope))) (farStep (seen w d .buffers) t)
+  Alike q t = ByItsOwn d (pairStep (changes (q .changed .answer)) (pairWithFar (w .pair) (q .changed .scan .far)) (withPairEnvelope (w .buffers) (q .envelope))) (farStep (seen w d .buffers) t)
 
   -- by the same number both are refused, or both hear the same
   pushed-alike : (n : ℕ) → Alike (pushed (common (w .pair)) n) (pushed (seen w d .scan) n)

@@ -8,7 +8,7 @@ use Rattle.scan.specs.Calls.{FarPush, farRefusal, pushedFar}
 use Rattle.scan.specs.Steps.{Response, deed, refusalOf, changes, called}
 use Rattle.scan.proofs.Laws.{if-refused-case}
 use Rattle.scan.proofs.FourFacts.{unchanged}
-use Rattle.scan_pair.specs.State.{Side, first, second, Named, channel, unknown, named, PairWorld, common, withFar, seen}
+use Rattle.scan_pair.specs.State.{Side, first, second, Named, channel, unknown, named, PairWorld, common, pairWithFar, seen}
 use Rattle.scan_pair.specs.Calls.{PairRestart, pairResetRefusal, pairReset, pairFar, pairNear, pairObserved, pairRearmed, pairDiscarded}
 use Rattle.scan_pair.specs.Steps.{Own, near, score, rearm, discard, ask, asDeed, PairCall, on, far, reset, settings, pairStep, withPairEnvelope, restartStep, ownCalled, pairCalled}
 use Rattle.scan_pair.specs.Streams.{pairRefused}
@@ -35,7 +35,7 @@ module _ (slack : ℕ) (w : PairWorld) where
   far-unchanged : (xs : List Float) → pairRefused slack w (far xs) → pairCalled slack w (far xs) .world ≡ w
   unfolding pairCalled pairFar pushedFar
   far-unchanged xs =
-      if-refused-case (λ (q : FarPush). (refusalOf (changes (q .changed .answer)) ≡ none → ⊥) → pairStep (changes (q .changed .answer)) (withFar (w .pair) (q .changed .scan .far)) (withPairEnvelope (w .buffers) (q .envelope)) .world ≡ w)
+      if-refused-case (λ (q : FarPush). (refusalOf (changes (q .changed .answer)) ≡ none → ⊥) → pairStep (changes (q .changed .answer)) (pairWithFar (w .pair) (q .changed .scan .far)) (withPairEnvelope (w .buffers) (q .envelope)) .world ≡ w)
       (farRefusal slack (common (w .pair)) (w .buffers .envelope) xs) _ _ (λ n r. refl) (λ z r. absurd (r refl))
 
   reset-unchanged : pairRefused slack w reset → pairCalled slack w reset .world ≡ w

@@ -31,7 +31,7 @@ use Rattle.scan_pair.specs.declared.PairChanged.{PairChanged}
 use Rattle.scan_pair.specs.declared.PairTook.{PairTook}
 use Rattle.scan_pair.specs.declared.PairScored.{PairScored}
 use Rattle.scan_pair.specs.declared.Pair.{Pair}
-use Rattle.scan_pair.specs.State.{Side, Named, noSuchChannel, onChannel, restarted, newPair, chosen, withChannel, withFar, asScan, channelOf, common}
+use Rattle.scan_pair.specs.State.{Side, Named, noSuchChannel, onChannel, restarted, newPair, chosen, withChannel, pairWithFar, asScan, channelOf, common}
 
 -- the pair with what a call left in channel d
 abbrev pub leftIn : Pair → Side → Scan → Pair
@@ -96,7 +96,7 @@ pub record PairFarPush : Type 0 where
 unfoldable pub pairFar : ℕ → Pair → List Float → List Float → PairFarPush
 pairFar slack p envelope xs =
     let q = pushedFar slack (common p) envelope xs in
-    record { changed = record { pair = withFar p (q .changed .scan .far); answer = q .changed .answer }; envelope = q .envelope }
+    record { changed = record { pair = pairWithFar p (q .changed .scan .far); answer = q .changed .answer }; envelope = q .envelope }
 
 -- ---- one near sample with its index. Lent: the named channel's near levels.
 

@@ -67,8 +67,8 @@ abbrev pub withChannel : Pair → Side → Channel → Pair
 withChannel p first k = record { geometry = p .geometry; far = p .far; first = k; second = p .second }
 withChannel p second k = record { geometry = p .geometry; far = p .far; first = p .first; second = k }
 
-abbrev pub withFar : Pair → Far → Pair
-withFar p f = record { geometry = p .geometry; far = f; first = p .first; second = p .second }
+abbrev pub pairWithFar : Pair → Far → Pair
+pairWithFar p f = record { geometry = p .geometry; far = f; first = p .first; second = p .second }
 
 -- a channel with the common part is a scan
 abbrev pub asScan : Pair → Channel → Scan

@@ -75,15 +75,15 @@ F32Own rearm = Unit {0}
 F32Own discard = Unit {0}
 F32Own (ask r) = Unit {0}
 
-abbrev pub F32Call : PairCall → Type 0
-F32Call (on c k) = F32Own k
-F32Call (far xs) = AllF32 xs
-F32Call reset = Unit {0}
-F32Call (settings r) = Unit {0}
+abbrev pub PairF32Call : PairCall → Type 0
+PairF32Call (on c k) = F32Own k
+PairF32Call (far xs) = AllF32 xs
+PairF32Call reset = Unit {0}
+PairF32Call (settings r) = Unit {0}
 
 abbrev pub F32Items : List PairItem → Type 0
 F32Items [] = Unit {0}
-F32Items (own c ∷ items) = F32Call c × F32Items items
+F32Items (own c ∷ items) = PairF32Call c × F32Items items
 F32Items (foreign v c ∷ items) = F32Items items
 
 -- and no reset is accepted
@@ -96,7 +96,7 @@ NoReset slack w (settings r) = Unit {0}
 -- a call that was handed anything but the pair's own state and buffers is refused
 abbrev pub PairFair : ℕ → PairWorld → List PairItem → Type 0
 PairFair slack w [] = Unit {0}
-PairFair slack w (own c ∷ items) = F32Call c × NoReset slack w c × PairFair slack (pairCalled slack w c .world) items
+PairFair slack w (own c ∷ items) = PairF32Call c × NoReset slack w c × PairFair slack (pairCalled slack w c .world) items
 PairFair slack w (foreign v c ∷ items) = pairRefused slack v c × PairFair slack w items
 
 -- the pair began: a making, or a reset of a pair with these settings, was not refused, and this is what it left

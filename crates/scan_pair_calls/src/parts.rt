@@ -10,7 +10,7 @@ use scan_pair::PairChanged;
 ghost use mathlib.Core.Path.{_≡_};
 ghost use Rattle.answers.specs.declared.Change.the-variants as Change;
 ghost use Rattle.scan_pair.specs.State;
-ghost use Rattle.scan_pair.specs.State.{sideOf, newChannel, restarted, withFar, asScan, channelOf};
+ghost use Rattle.scan_pair.specs.State.{sideOf, newChannel, restarted, pairWithFar, asScan, channelOf};
 ghost use Rattle.scan_pair.specs.Calls.{leftIn, scanOf};
 
 // A channel with the common part is a scan.
@@ -90,7 +90,7 @@ pub fn left_in(pair: Pair, channel: u32, scan: Scan) -> Pair
 }
 
 pub fn with_far(pair: Pair, far: Far) -> Pair
-    ensures { λ r. ⌜ r ≡ withFar pair far ⌝ }
+    ensures { λ r. ⌜ r ≡ pairWithFar pair far ⌝ }
 {
     let geometry = pair.geometry;
     let first = pair.first;

@@ -16,7 +16,7 @@ use Rattle.scan.specs.State.{Buffers}
 use Rattle.scan.specs.Told.{takingTold, scoringTold, regionTold, levelTold, samplesTold}
 use Rattle.scan_score.specs.Observing.{lent}
 use Rattle.scan_handover.specs.Told.{runTold}
-use Rattle.scan_words.specs.Answers.{frameValues, regionValues, scoringGiven, levelGiven, levelPattern, regionGiven, correlationPattern}
+use Rattle.scan_words.specs.Answers.{frameValues, regionValueCount, scoringGiven, levelGiven, levelPattern, regionGiven, correlationPattern}
 use Rattle.scan_pair.specs.State.{named, sideOf, noSuchChannel}
 use Rattle.scan_pair.specs.Calls.{PairRestart, pairMade, pairReset, PairClearing, pairRearmed, pairDiscarded, pairFar, pairNear, pairObserved, pairBinSamples, pairCeilingSamples, pairFrames, pairCorrelation, pairRegion, pairBeyondCeiling, pairFinished, pairExhausted}
 use Rattle.scan_pair_calls.specs.Runs.{pairHanded}
@@ -148,7 +148,7 @@ correlationCalled ws c vs =
 unfoldable pub regionCalled : List ℕ → ℕ → List ℕ → Left (Unit {0})
 regionCalled ws c vs =
     let report = pairRegion (loadedPair ws) (named c) in
-    unlessRefused (judgedOn c ws (fits regionValues vs)) ws vs tt (left (number (regionTold report)) ws (regionGiven vs (correlationPattern (wordsOf (sideOf c) ws)) report) tt)
+    unlessRefused (judgedOn c ws (fits regionValueCount vs)) ws vs tt (left (number (regionTold report)) ws (regionGiven vs (correlationPattern (wordsOf (sideOf c) ws)) report) tt)
 
 abbrev pub flagCalled : List ℕ → ℕ → Flag → Left (Unit {0})
 flagCalled ws c report = unlessRefused (judgedOn c ws true) ws [] tt (left (number (flagTold report)) ws [] tt)

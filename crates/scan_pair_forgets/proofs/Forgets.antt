@@ -12,21 +12,21 @@ use Rattle.scan_pair.specs.Steps.{PairCall, PairStep, pairCalled, pairMaking}
 use Rattle.scan_pair.specs.Streams.{PairItem, own, share, withAnswer, answersTo, pairAfter, without, PairBegan, byMaking, byReset, PairFair, PairLate, rearmOf, pairResumed, pairFactsOf, PairStream}
 use Rattle.scan_pair.proofs.Apart.{apart}
 use Rattle.scan_pair.proofs.Forgets.{pair-forgets}
-use Rattle.scan_pair_forgets.specs.Happened.{PairAnswered, one, byRules, Happened, Begun, made, afresh}
-use Rattle.scan_pair_forgets.specs.Statement.{itemsIn, answersIn, Ran, CodeApart, CodeForgets}
+use Rattle.scan_pair_forgets.specs.Happened.{PairAnswered, onePair, pairByRules, PairHappened, PairBegun, made, afresh}
+use Rattle.scan_pair_forgets.specs.Statement.{itemsIn, answersOf, PairRan, CodeApart, PairCodeForgets}
 use Rattle.scan_pair_forgets.proofs.Made.{new-steps}
 use Rattle.scan_pair_forgets.proofs.Runs.{afterCalls}
 use Rattle.scan_pair_forgets.proofs.Followed.{Followed, followed, in-turn}
 
 -- ---- the calls as the rules answer them, and the list of them
 
-after-is : (calls : List PairCall) (w : PairWorld) → pairAfter fullSlack w (itemsIn (byRules w calls)) ≡ afterCalls w calls
-unfolding pairAfter itemsIn byRules afterCalls
+after-is : (calls : List PairCall) (w : PairWorld) → pairAfter fullSlack w (itemsIn (pairByRules w calls)) ≡ afterCalls w calls
+unfolding pairAfter itemsIn pairByRules afterCalls
 after-is [] w = refl
 after-is (c ∷ calls) w = after-is calls (pairCalled fullSlack w c .world)
 
-answers-are : (d : Side) (calls : List PairCall) (w : PairWorld) → answersIn d (byRules w calls) ≡ answersTo d fullSlack w (itemsIn (byRules w calls))
-unfolding answersIn answersTo itemsIn byRules
+answers-are : (d : Side) (calls : List PairCall) (w : PairWorld) → answersOf d (pairByRules w calls) ≡ answersTo d fullSlack w (itemsIn (pairByRules w calls))
+unfolding answersOf answersTo itemsIn pairByRules
 answers-are d [] w = refl
 answers-are d (c ∷ calls) w = ap (withAnswer (share d c) (pairCalled fullSlack w c .response)) (answers-are d calls (pairCalled fullSlack w c .world))
 
@@ -34,8 +34,8 @@ module _ {w w' : PairWorld} {t : List PairAnswered} (f : Followed w t w') where
   ends-at : pairAfter fullSlack w (itemsIn t) ≡ w'
   ends-at = ap (λ (z : List PairAnswered). pairAfter fullSlack w (itemsIn z)) (f .answered) ∙ after-is (f .calls) w ∙ f .ends
 
-  answered-so : (d : Side) → answersIn d t ≡ answersTo d fullSlack w (itemsIn t)
-  answered-so d = subst (λ (z : List PairAnswered). answersIn d z ≡ answersTo d fullSlack w (itemsIn z)) (sym (f .answered)) (answers-are d (f .calls) w)
+  answered-so : (d : Side) → answersOf d t ≡ answersTo d fullSlack w (itemsIn t)
+  answered-so d = subst (λ (z : List PairAnswered). answersOf d z ≡ answersTo d fullSlack w (itemsIn z)) (sym (f .answered)) (answers-are d (f .calls) w)
 
 -- ---- the beginning, and the rearm
 
@@ -44,8 +44,8 @@ abbrev first : PairAnswered → List PairAnswered → PairAnswered
 first a [] = a
 first a (b ∷ rest) = b
 
-call-is : (w w' : PairWorld) (c : PairCall) (r : Response) (calls : List PairCall) → one w c r ≡ byRules w calls → afterCalls w calls ≡ w' → (pairCalled fullSlack w c .response ≡ r) × (pairCalled fullSlack w c .world ≡ w')
-unfolding byRules afterCalls
+call-is : (w w' : PairWorld) (c : PairCall) (r : Response) (calls : List PairCall) → onePair w c r ≡ pairByRules w calls → afterCalls w calls ≡ w' → (pairCalled fullSlack w c .response ≡ r) × (pairCalled fullSlack w c .world ≡ w')
+unfolding pairByRules afterCalls
 call-is w w' c r [] t e = let z : _≡_ {A = ℕ} 1 0 = ap length t in absurd (omega arith)
 call-is w w' c r (d ∷ []) t e =
     let a = ap (first (record { handed = w; call = c; response = r })) t in
@@ -53,10 +53,10 @@ call-is w w' c r (d ∷ []) t e =
     (ap (λ (z : PairCall). pairCalled fullSlack w z .response) same ∙ sym (ap (λ (z : PairAnswered). z .response) a), ap (λ (z : PairCall). pairCalled fullSlack w z .world) same ∙ e)
 call-is w w' c r (d ∷ d' ∷ calls) t e = let z = ap length t in absurd (omega arith)
 
-happened : {w w' : PairWorld} {c : PairCall} {r : Response} → Happened w (one w c r) w' → (pairCalled fullSlack w c .response ≡ r) × (pairCalled fullSlack w c .world ≡ w')
+happened : {w w' : PairWorld} {c : PairCall} {r : Response} → PairHappened w (onePair w c r) w' → (pairCalled fullSlack w c .response ≡ r) × (pairCalled fullSlack w c .world ≡ w')
 happened {w} {w'} {c} {r} h = let f = followed h in call-is w w' c r (f .calls) (f .answered) (f .ends)
 
-began : (rate ceiling : ℕ) (w : PairWorld) → Begun rate ceiling w → PairBegan fullSlack rate ceiling w
+began : (rate ceiling : ℕ) (w : PairWorld) → PairBegun rate ceiling w → PairBegan fullSlack rate ceiling w
 began rate ceiling w (made f b p q e l m a) =
     let s = new-steps f b e l m ∙ ap₂ {A = ℕ} {B = ℕ} (λ (x y : ℕ). pairMaking fullSlack x y b) (sym p) (sym q) in
     subst (PairBegan fullSlack rate ceiling) (ap (λ (z : PairStep). z .world) (sym s)) (byMaking b (ap (λ (z : PairStep). refusalOf (z .response)) (sym s) ∙ a))
@@ -69,7 +69,7 @@ began rate ceiling w (afresh v _ r p q h a) =
 pub code-apart : CodeApart
 code-apart rate ceiling d w w' t b h f = answered-so (in-turn h) d ∙ apart fullSlack rate ceiling d w (itemsIn t) (began rate ceiling w b) f
 
-pub code-forgets : CodeForgets
+pub code-forgets : PairCodeForgets
 code-forgets d rate ceiling block w e v u earlier later r =
     let at = ends-at (in-turn (r .before)) in
     let s = happened (r .rearm) in

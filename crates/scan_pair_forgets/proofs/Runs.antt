@@ -27,7 +27,7 @@ use Rattle.scan_pair_calls.specs.Runs.{PairRun, pairHanded}
 use Rattle.scan_pair_calls.proofs.push_near_run.Kinds as push-near-run-kinds
 use Rattle.scan_pair_calls.proofs.push_near_run.Reads as push-near-run-reads
 use Rattle.scan_forgets.specs.Happened.{Return}
-use Rattle.scan_pair_forgets.specs.Happened.{pairWorld, singly}
+use Rattle.scan_pair_forgets.specs.Happened.{pairWorld, singlyOn}
 
 -- the world after calls in turn
 unfoldable pub afterCalls : PairWorld → List PairCall → PairWorld
@@ -51,8 +51,8 @@ near-seen : (w : PairWorld) (d : Side) (x : Float) (index : ℕ) → seen (ownCa
 near-seen w d x index = by-its-own fullSlack w d (near x index) .world
 
 -- and several
-singles-leave : (c : ℕ) (d : Side) → named c ≡ channel d → (xs : List Float) (w : PairWorld) (index : ℕ) → afterCalls w (singly c xs index) ≡ leaves w d (after fullSlack (seen w d) (asItems xs index))
-unfolding afterCalls singly after
+singles-leave : (c : ℕ) (d : Side) → named c ≡ channel d → (xs : List Float) (w : PairWorld) (index : ℕ) → afterCalls w (singlyOn c xs index) ≡ leaves w d (after fullSlack (seen w d) (asItems xs index))
+unfolding afterCalls singlyOn after
 singles-leave c d e [] w index = sym (leaves-same w d)
 singles-leave c d e (x ∷ xs) w index =
     let v = called fullSlack (seen w d) (deed (base.near x index)) .world in
@@ -73,7 +73,7 @@ abbrev runTaken : PairWorld → Named → List Float → ℕ → ℕ
 runTaken w n xs index = takenIn (pairHanded (w .pair) n (lentTo (w .buffers) n .levels) xs index .handed .answer)
 
 module _ (w : PairWorld) (c : ℕ) (xs : List Float) (index : ℕ) (samples : AllF32 xs) (sums : (d : Side) → T (fits binary64 (seen w d .scan .near .sum))) where
-  on-channel : (d : Side) → named c ≡ channel d → afterCalls w (singly c (take (runTaken w (channel d) xs index) xs) index) ≡ runWorld w (channel d) xs index
+  on-channel : (d : Side) → named c ≡ channel d → afterCalls w (singlyOn c (take (runTaken w (channel d) xs index) xs) index) ≡ runWorld w (channel d) xs index
   unfolding pairHanded
   on-channel d e =
       let s = seen w d .scan in
@@ -88,13 +88,13 @@ module _ (w : PairWorld) (c : ℕ) (xs : List Float) (index : ℕ) (samples : Al
       (λ t. stays (eqb-false n 0 t) ∙ sym (refused-in-stream (seen w d) xs index (eqb-false n 0 t))) in
       singles-leave c d e (take k xs) w index ∙ ap (leaves w d) same
 
-  on-named : (n : Named) → named c ≡ n → afterCalls w (singly c (take (runTaken w n xs index) xs) index) ≡ runWorld w n xs index
+  on-named : (n : Named) → named c ≡ n → afterCalls w (singlyOn c (take (runTaken w n xs index) xs) index) ≡ runWorld w n xs index
   on-named (channel d) e = on-channel d e
-  on-named unknown e = (unfold pairHanded afterCalls singly in refl)
+  on-named unknown e = (unfold pairHanded afterCalls singlyOn in refl)
 
 pub run-steps : (f : Return 2 push-near-run-kinds.ps push-near-run-kinds.r push-near-run-reads.Post) (w : PairWorld) → w .pair ≡ f .given .0 → lentTo (w .buffers) (named (f .given .1 .0)) .levels ≡ now (f .given .1 .1 .0)
     → AllF32 (now (f .given .1 .1 .1 .0)) → ((d : Side) → T (fits binary64 (seen w d .scan .near .sum)))
-    → afterCalls w (singly (f .given .1 .0) (take (takenIn (f .result .answer)) (now (f .given .1 .1 .1 .0))) (f .given .1 .1 .1 .1 .0))
+    → afterCalls w (singlyOn (f .given .1 .0) (take (takenIn (f .result .answer)) (now (f .given .1 .1 .1 .0))) (f .given .1 .1 .1 .1 .0))
     ≡ pairWorld (f .result .pair) (handedBack (w .buffers) (named (f .given .1 .0)) (withLevels (lentTo (w .buffers) (named (f .given .1 .0))) (now (f .left .1 .1 .0))))
 run-steps f w s e samples sums =
     let c = f .given .1 .0 in
@@ -102,6 +102,6 @@ run-steps f w s e samples sums =
     let index = f .given .1 .1 .1 .1 .0 in
     let a = f .admitted .0 ∙ (λ i. pairHanded (sym s i) (named c) (sym e i) xs index .handed) in
     let b = f .admitted .1 ∙ (λ i. pairHanded (sym s i) (named c) (sym e i) xs index .levels) in
-    (λ i. afterCalls w (singly c (take (takenIn (a i .answer)) xs) index))
+    (λ i. afterCalls w (singlyOn c (take (takenIn (a i .answer)) xs) index))
     ∙ on-named w c xs index samples sums (named c) refl
     ∙ (λ i. pairWorld (sym a i .pair) (handedBack (w .buffers) (named c) (withLevels (lentTo (w .buffers) (named c)) (sym b i))))

@@ -108,16 +108,16 @@ refusalIn (counts (taking.Full n)) = none
 
 -- Each call was handed what the last returned; or it was handed anything else, and was refused (`foreign`; `unmade`, of a making). Such a call may have been lent some of the
 -- stream's own buffers: `around` says what the stream's state and buffers are, given those that the call was handed, so that afterwards they hold what it left.
-pub data InTurn (Happens : World → Fed → Answer → World → Type 0) (Makes : ℕ → ℕ → Buffers → Response → World → Type 0) : World → List Fed → List Answer → World → Type 0 where
-  none-more : (w : World) → InTurn Happens Makes w [] [] w
-  next : {w w' w'' : World} {f : Fed} {a : Answer} {calls : List Fed} {told : List Answer} → Happens w f a w' → InTurn Happens Makes w' calls told w'' → InTurn Happens Makes w (f ∷ calls) (a ∷ told) w''
+pub data BothInTurn (Happens : World → Fed → Answer → World → Type 0) (Makes : ℕ → ℕ → Buffers → Response → World → Type 0) : World → List Fed → List Answer → World → Type 0 where
+  none-more : (w : World) → BothInTurn Happens Makes w [] [] w
+  next : {w w' w'' : World} {f : Fed} {a : Answer} {calls : List Fed} {told : List Answer} → Happens w f a w' → BothInTurn Happens Makes w' calls told w'' → BothInTurn Happens Makes w (f ∷ calls) (a ∷ told) w''
   foreign : {v v' w' : World} {f : Fed} {a : Answer} {calls : List Fed} {told : List Answer} (around : World → World) → Happens v f a v' → (refusalIn a ≡ none → ⊥)
-      → InTurn Happens Makes (around v') calls told w' → InTurn Happens Makes (around v) calls told w'
+      → BothInTurn Happens Makes (around v') calls told w' → BothInTurn Happens Makes (around v) calls told w'
   unmade : {rate ceiling : ℕ} {b : Buffers} {r : Response} {v w' : World} {calls : List Fed} {told : List Answer} (around : Buffers → World) → Makes rate ceiling b r v → (refusalOf r ≡ none → ⊥)
-      → InTurn Happens Makes (around (v .buffers)) calls told w' → InTurn Happens Makes (around b) calls told w'
+      → BothInTurn Happens Makes (around (v .buffers)) calls told w' → BothInTurn Happens Makes (around b) calls told w'
 
 abbrev pub PanelInTurn : World → List Fed → List Answer → World → Type 0
-PanelInTurn = InTurn PanelHappened PanelMade
+PanelInTurn = BothInTurn PanelHappened PanelMade
 
 abbrev pub FullInTurn : World → List Fed → List Answer → World → Type 0
-FullInTurn = InTurn FullHappened FullMade
+FullInTurn = BothInTurn FullHappened FullMade

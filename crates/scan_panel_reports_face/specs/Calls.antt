@@ -8,7 +8,7 @@ use Rattle.words.specs.Words.{fits, oneValue}
 use Rattle.words.specs.Answers.{number, given}
 use Rattle.scan.specs.Told.{regionTold, levelTold, samplesTold}
 use Rattle.scan_words.specs.Layout.{loaded}
-use Rattle.scan_words.specs.Answers.{regionValues, levelGiven, levelPattern, regionGiven, correlationPattern}
+use Rattle.scan_words.specs.Answers.{regionValueCount, levelGiven, levelPattern, regionGiven, correlationPattern}
 use Rattle.face.specs.Face.{Left, left, unlessRefused}
 use Rattle.scan_panel.specs.Panel.{panelBinSamples, panelCeilingSamples, panelFramesOf, panelCorrelationOf, panelRegionOf, panelBeyondCeiling, panelIsFinished, panelIsExhausted}
 use Rattle.scan_panel_face.specs.Calls.{judgedPanel}
@@ -34,7 +34,7 @@ panelCorrelationCalled ws vs =
 unfoldable pub panelRegionCalled : List ℕ → List ℕ → Left (Unit {0})
 panelRegionCalled ws vs =
     let report = panelRegionOf (loaded ws) in
-    unlessRefused (judgedPanel ws (fits regionValues vs)) ws vs tt (left (number (regionTold report)) ws (regionGiven vs (correlationPattern ws) report) tt)
+    unlessRefused (judgedPanel ws (fits regionValueCount vs)) ws vs tt (left (number (regionTold report)) ws (regionGiven vs (correlationPattern ws) report) tt)
 
 abbrev pub panelFlagCalled : List ℕ → Flag → Left (Unit {0})
 panelFlagCalled ws report = unlessRefused (judgedPanel ws true) ws [] tt (left (number (flagTold report)) ws [] tt)

@@ -45,18 +45,18 @@ pub record HearsFour (slack : ℕ) (g : Geometry) (f : Far) (envelope xs : List 
   pub four : length xs ≡ 4 * g .decimation
 
 -- n samples are of two blocks at most, or are four whole ones
-abbrev pub Shaped : Geometry → Far → ℕ → Type 0
-Shaped g f n = 2 * g .decimation < f .count + n → (f .count ≡ 0) × (n ≡ 4 * g .decimation)
+abbrev pub FarShaped : Geometry → Far → ℕ → Type 0
+FarShaped g f n = 2 * g .decimation < f .count + n → (f .count ≡ 0) × (n ≡ 4 * g .decimation)
 
 pub record HearsRun (slack : ℕ) (g : Geometry) (f : Far) (envelope xs : List Float) : Type 0 where
   pub all : HearsAll slack g f envelope xs
-  pub shaped : Shaped g f (length xs)
+  pub shaped : FarShaped g f (length xs)
 
 -- a run of the samples left
 pub record RunLength (g : Geometry) (f : Far) (left n : ℕ) : Type 0 where
   pub some : 0 < n
   pub within : n ≤ left
-  pub shaped : Shaped g f n
+  pub shaped : FarShaped g f n
 
 -- four blocks of d samples
 pub record FourBlocks (d : ℕ) (xs : List Float) : Type 0 where

@@ -25,7 +25,7 @@ use Rattle.scan_push.proofs.Calls.{not-taken, is-ignored}
 use Rattle.scan_push.specs.Ready.{Gathers}
 use Rattle.scan_calls.proofs.Chains.{yes, later}
 use Rattle.scan_runs.specs.Runs.{Run, passes, rests, further, ran}
-use Rattle.scan_runs.specs.Ready.{passable, stepped, totalOf, moved, stretched, Reaches, Open}
+use Rattle.scan_runs.specs.Ready.{passable, afterSample, totalOf, moved, stretched, Reaches, Open}
 use Rattle.scan_runs.proofs.Stretching.{leapt}
 use Rattle.scan_runs.proofs.Passing.{Steady, steady, stays, goes-on, keeps, gathers, small}
 
@@ -142,10 +142,10 @@ module _ (s₀ : Scan) (levels₀ xs : List Float) (first : ℕ) where
         pub gathers-if : dropped (s₀ .geometry) (heldAt n index) index ≡ false → Gathers (s₀ .geometry) (heldAt n index) levels (at xs i)
         gathers-if d = gathers now levels (k .ready) (at xs i) index h d
 
-        pub goes : (n′ : Near) (levels′ : List Float) → n′ ≡ stepped (s₀ .geometry) (record { near = n; levels = levels }) (at xs i) index .near
-            → levels′ ≡ stepped (s₀ .geometry) (record { near = n; levels = levels }) (at xs i) index .levels → Going s₀ levels₀ xs first n′ levels′ (index + 1) (i + 1)
+        pub goes : (n′ : Near) (levels′ : List Float) → n′ ≡ afterSample (s₀ .geometry) (record { near = n; levels = levels }) (at xs i) index .near
+            → levels′ ≡ afterSample (s₀ .geometry) (record { near = n; levels = levels }) (at xs i) index .levels → Going s₀ levels₀ xs first n′ levels′ (index + 1) (i + 1)
         goes n′ levels′ p q =
-            let t = stepped (s₀ .geometry) (record { near = n; levels = levels }) (at xs i) index in
+            let t = afterSample (s₀ .geometry) (record { near = n; levels = levels }) (at xs i) index in
             let r = ran (withNear s₀ (t .near)) (t .levels) (drop (i + 1) xs) (index + 1) in
             let e : further (i + 1) r ≡ further i (further 1 r) = ap (λ (z : ℕ). record { scan = r .scan; levels = r .levels; passed = z }) (add-assoc i 1 (r .passed)) in
             rw (p, q)

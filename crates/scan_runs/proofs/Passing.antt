@@ -33,7 +33,7 @@ use Rattle.scan_calls.proofs.Passing.{pass, bounds, due-is}
 use Rattle.scan_push.specs.Ready.{Gathers}
 use Rattle.scan_push.proofs.Pushing.{held-below}
 use Rattle.scan_runs.specs.Runs.{Run, passes, rests, further, ran}
-use Rattle.scan_runs.specs.Ready.{fills, passable, stepped, Open}
+use Rattle.scan_runs.specs.Ready.{fills, passable, afterSample, Open}
 
 -- ---- a state that keeps its rules, but for the running sum, which is tested at each sample; it is not finished, and no full frame waits
 
@@ -240,7 +240,7 @@ module _ (s : Scan) (levels : List Float) (k : Steady s levels) where
 
     module _ (h : passable (s .geometry) (s .near) x index ≡ true) where
       abbrev next : Seen
-      next = stepped (s .geometry) (record { near = s .near; levels = levels }) x index
+      next = afterSample (s .geometry) (record { near = s .near; levels = levels }) x index
 
       pub small : index < limit
       unfolding passable

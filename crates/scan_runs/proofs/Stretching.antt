@@ -25,7 +25,7 @@ use Rattle.scan.specs.declared.Scan.{Scan}
 use Rattle.scan.proofs.Laws.{both-and, both-fails}
 use Rattle.scan_push.proofs.Pushing.{goes-on-bin, held-on}
 use Rattle.scan_runs.specs.Runs.{Run, further, ran}
-use Rattle.scan_runs.specs.Ready.{fills, passable, stepped, totalOf, moved, stretched}
+use Rattle.scan_runs.specs.Ready.{fills, passable, afterSample, totalOf, moved, stretched}
 use Rattle.scan_runs.proofs.Passing.{Steady, goes-on, keeps}
 
 -- ---- a finite sum had finite parts
@@ -79,7 +79,7 @@ module _ (s : Scan) (levels : List Float) (k : Steady s levels) (x : Float) (ind
       subst (λ (m : Near). both (finite (s .near .sum)) (both (ltb index limit) (either (dropped (s .geometry) m index) (both (finite x) (not (fills (s .geometry) m))))) ≡ true) held
       (both-and _ _ (f .0) (both-and _ _ (lt-ltb index limit small) (pick-false (dropped (s .geometry) (s .near) index) true _ kept ∙ both-and _ _ (f .1) (ap not unfull))))
 
-  leaves : stepped (s .geometry) (record { near = s .near; levels = levels }) x index ≡ record { near = one; levels = levels }
+  leaves : afterSample (s .geometry) (record { near = s .near; levels = levels }) x index ≡ record { near = one; levels = levels }
   leaves =
       ap (λ (m : Near). let u : Seen = record { near = m; levels = levels } in pick (dropped (s .geometry) m index) u (gather (s .geometry) u x index)) (sym held)
       ∙ pick-false (dropped (s .geometry) (s .near) index) _ _ kept

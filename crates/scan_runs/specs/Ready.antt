@@ -30,8 +30,8 @@ passable g n x index =
     (not (fills g (heldAt n index))))))
 
 -- what such a sample leaves
-abbrev pub stepped : Geometry → Seen → Float → ℕ → Seen
-stepped g t x index =
+abbrev pub afterSample : Geometry → Seen → Float → ℕ → Seen
+afterSample g t x index =
     let u : Seen = record { near = heldAt (t .near) index; levels = t .levels } in
     pick (dropped g (u .near) index) u (gather g u x index)
 

@@ -14,7 +14,7 @@ ghost use Rattle.scan_push.specs.Ready.{Gathers};
 ghost use Rattle.scan.specs.Blocks.{dropped, heldAt};
 ghost use Rattle.scan_runs.specs.Runs.{Run, ran};
 ghost use Rattle.scan_runs.specs.Ready;
-ghost use Rattle.scan_runs.specs.Ready.{stepped, totalOf, stretched, Reaches, Open};
+ghost use Rattle.scan_runs.specs.Ready.{afterSample, totalOf, stretched, Reaches, Open};
 
 // The state after a run, and how many samples passed.
 pub struct Ran {
@@ -57,8 +57,8 @@ fn passable(g: Geometry, n: Near, sample: f32, index: u64) -> bool
 // What a sample that passes leaves.
 fn step(g: Geometry, n: Near, levels: &mut [f32], sample: f32, index: u64) -> Near
     requires { ⌜ (0 < g .decimation) × (dropped g (heldAt n index) index ≡ false → Gathers g (heldAt n index) (now levels) sample) ⌝ }
-    ensures near { λ r. ⌜ r ≡ stepped g (record { near = n; levels = now (levels .entry) }) sample index .near ⌝ }
-    ensures levels { λ r. ⌜ now (levels .exit) ≡ stepped g (record { near = n; levels = now (levels .entry) }) sample index .levels ⌝ }
+    ensures near { λ r. ⌜ r ≡ afterSample g (record { near = n; levels = now (levels .entry) }) sample index .near ⌝ }
+    ensures levels { λ r. ⌜ now (levels .exit) ≡ afterSample g (record { near = n; levels = now (levels .entry) }) sample index .levels ⌝ }
 {
     let held = near::held_at(n, index);
     if near::dropped(g, held, index) {

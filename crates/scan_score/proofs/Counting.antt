@@ -18,7 +18,7 @@ use Rattle.scan.specs.declared.Frame.{Frame}
 use Rattle.scan.specs.declared.Frame.the-variants as frame
 use Rattle.scan.specs.declared.Scoring.the-variants as scoring
 use Rattle.scan.specs.declared.Geometry.{Geometry}
-use Rattle.scan_score.specs.Counting.{counts, scoredOne, tallied, tally, CountsFrames, FrameCarries, Carries, BanksPeak, ExhaustsByStep8}
+use Rattle.scan_score.specs.Counting.{isCounted, scoredOne, tallied, tally, CountsFrames, FrameCarries, Carries, BanksPeak, ExhaustsByStep8}
 
 -- ---- what holds of a refused frame, of the answers of steps 1 to 4, and of a frame that counts, holds of every observation
 
@@ -42,7 +42,7 @@ decision-rules g averages x =
 
 module _ (w : World) (P : Observation → Type 0)
     (refuses : (n : ℕ) → P (record { scored = record { scan = w .scan; answer = scoring.Refused n }; buffers = w .buffers }))
-    (skips : (b : Buffers) (f : Frame) → counts f ≡ false → P (observation (w .scan) (w .scan .verdict) f 0 b))
+    (skips : (b : Buffers) (f : Frame) → isCounted f ≡ false → P (observation (w .scan) (w .scan .verdict) f 0 b))
     (rules : (window scores lagSums : List Float) (f : Frame) (banked formed : ℕ) → Rules f (peakOf scores)
     → P (countedBy w window scores (record { answer = f; verdict = verdictBy (w .scan .verdict) (peakOf scores) f banked; lagSums = lagSums }) formed)) where
   of-counted : (levels window : List Float) → P (countedFrame w levels window)
@@ -68,7 +68,7 @@ module _ (w : World) (P : Observation → Type 0)
 
 -- ---- one frame
 
-rules-count : (f : Frame) (x : Float) → Rules f x → counts f ≡ true
+rules-count : (f : Frame) (x : Float) → Rules f x → isCounted f ≡ true
 rules-count frame.Uncovered x r = absurd r
 rules-count frame.Ahead x r = absurd r
 rules-count frame.Quiet x r = absurd r
@@ -90,7 +90,7 @@ rules-carry frame.Ceiling x r = tt
 rules-carry frame.Crowded x r = tt
 rules-carry (frame.Region q) x r = tt
 
-skips-carry : (f : Frame) (x : Float) → counts f ≡ false → FrameCarries f x
+skips-carry : (f : Frame) (x : Float) → isCounted f ≡ false → FrameCarries f x
 skips-carry frame.Uncovered x e = tt
 skips-carry frame.Ahead x e = tt
 skips-carry frame.Quiet x e = tt
@@ -117,8 +117,8 @@ exhausts-by-step-8 slack w =
     (λ (o : Observation). o .scored .scan .verdict .exhausted
     ≡ pick (scoredOne (o .scored .answer)) (exhaustedBy (o .scored .scan .verdict .frames) (o .scored .scan .verdict .found) before) before)
     (λ n. refl)
-    (λ b f e. sym (pick-false (counts f) _ _ e))
-    (λ window scores lagSums f banked formed r. sym (pick-true (counts f) _ _ (rules-count f (peakOf scores) r)))
+    (λ b f e. sym (pick-false (isCounted f) _ _ e))
+    (λ window scores lagSums f banked formed r. sym (pick-true (isCounted f) _ _ (rules-count f (peakOf scores) r)))
     slack
 
 -- ---- any calls
@@ -130,8 +130,8 @@ frames-scored slack w =
     let n = w .scan .verdict .frames in
     of-observed w (λ (o : Observation). o .scored .scan .verdict .frames ≡ pick (scoredOne (o .scored .answer)) (nextCount n) n)
     (λ m. refl)
-    (λ b f e. sym (pick-false (counts f) _ _ e))
-    (λ window scores lagSums f banked formed r. sym (pick-true (counts f) _ _ (rules-count f (peakOf scores) r)))
+    (λ b f e. sym (pick-false (isCounted f) _ _ e))
+    (λ window scores lagSums f banked formed r. sym (pick-true (isCounted f) _ _ (rules-count f (peakOf scores) r)))
     slack
 
 -- a call that clears where it is not refused

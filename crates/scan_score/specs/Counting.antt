@@ -20,20 +20,20 @@ use Rattle.scan.specs.declared.Scoring.{Scoring}
 use Rattle.scan.specs.declared.Scoring.the-variants as scoring
 
 -- the frame passed to step 5
-abbrev pub counts : Frame → Bool
-counts frame.Uncovered = false
-counts frame.Ahead = false
-counts frame.Quiet = false
-counts frame.Flat = false
-counts (frame.Banked p) = true
-counts frame.Weak = true
-counts frame.Ceiling = true
-counts frame.Crowded = true
-counts (frame.Region r) = true
+abbrev pub isCounted : Frame → Bool
+isCounted frame.Uncovered = false
+isCounted frame.Ahead = false
+isCounted frame.Quiet = false
+isCounted frame.Flat = false
+isCounted (frame.Banked p) = true
+isCounted frame.Weak = true
+isCounted frame.Ceiling = true
+isCounted frame.Crowded = true
+isCounted (frame.Region r) = true
 
 abbrev pub scoredOne : Scoring → Bool
 scoredOne (scoring.Refused n) = false
-scoredOne (scoring.Frame f n) = counts f
+scoredOne (scoring.Frame f n) = isCounted f
 
 -- the answer of a call is such a frame
 abbrev pub countedOne : Response → Bool

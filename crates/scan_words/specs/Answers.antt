@@ -31,8 +31,8 @@ abbrev pub frameValues : ℕ
 frameValues = 3
 
 -- of a region: its delay and correlation
-abbrev pub regionValues : ℕ
-regionValues = 2
+abbrev pub regionValueCount : ℕ
+regionValueCount = 2
 
 -- ---- a scored frame: its products stand third, whatever its case tells before them; a refusal gives nothing
 

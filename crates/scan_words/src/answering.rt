@@ -18,7 +18,7 @@ ghost use Rattle.words.specs.Words.{oneValue};
 ghost use Rattle.words.specs.Answers.{number, given};
 ghost use Rattle.scan.specs.Told.{takingTold, frameTold, scoringTold, foundTold, regionTold, levelTold, samplesTold};
 ghost use Rattle.scan_words.specs.Layout.{scanWords};
-ghost use Rattle.scan_words.specs.Answers.{frameValues, regionValues, changedWords, placed, scoringGiven, foundGiven, regionGiven, levelGiven};
+ghost use Rattle.scan_words.specs.Answers.{frameValues, regionValueCount, changedWords, placed, scoringGiven, foundGiven, regionGiven, levelGiven};
 
 // How many values a call is lent a list for, where it is not one.
 pub const FRAME_VALUES: usize = 3;
@@ -49,7 +49,7 @@ pub fn taking_number(answer: Taking) -> u32
 
 // A region's delay, and the pattern of its correlation.
 fn place(values: &mut [u64], region: Region, pattern: u64)
-    requires { ⌜ regionValues ≤ length (now values) ⌝ }
+    requires { ⌜ regionValueCount ≤ length (now values) ⌝ }
     ensures { λ _. ⌜ now (values .exit) ≡ placed (now (values .entry)) region pattern ⌝ }
 {
     values[0] = region.delay.0;
@@ -98,7 +98,7 @@ pub fn tell_scoring(values: &mut [u64], answer: Scoring) -> u32
 // ---- reports: the number, and the values into the list. A float is told by the pattern that it has in the state, where it stands there.
 
 fn tell_found(values: &mut [u64], old: u64, found: Found) -> u32
-    requires { ⌜ length (now values) ≡ regionValues ⌝ }
+    requires { ⌜ length (now values) ≡ regionValueCount ⌝ }
     ensures number { λ r. ⌜ r ≡ number (foundTold found) ⌝ }
     ensures values { λ r. ⌜ now (values .exit) ≡ foundGiven (now (values .entry)) old found ⌝ }
 {
@@ -112,7 +112,7 @@ fn tell_found(values: &mut [u64], old: u64, found: Found) -> u32
 }
 
 pub fn tell_region(values: &mut [u64], old: u64, answer: RegionReport) -> u32
-    requires { ⌜ length (now values) ≡ regionValues ⌝ }
+    requires { ⌜ length (now values) ≡ regionValueCount ⌝ }
     ensures number { λ r. ⌜ r ≡ number (regionTold answer) ⌝ }
     ensures values { λ r. ⌜ now (values .exit) ≡ regionGiven (now (values .entry)) old answer ⌝ }
 {

@@ -1,7 +1,7 @@
 -- `log_says::put_verdict` meets its contract.
 use borrow.Author.Needs.{needs}
 use Rattle.log_says.proofs.Lengths.{put-nothing}
-use Rattle.log_says.specs.Says.{verdictText}
+use Rattle.log_says.specs.Says.{apartText}
 use Rattle.log_says.specs.Calls.{saidText}
 use Rattle.log_says.proofs.put_verdict.Statement.{statement}
 use Rattle.log_says.proofs.put_verdict.Tie as tie
@@ -32,14 +32,14 @@ same-length : tie.Need-same-length
 same-length c = search needs
 
 returns-2 : tie.Need-returns-2
-unfolding saidText verdictText
+unfolding saidText apartText
 returns-2 c = rw (c .before .before .before .before .before .enum-told2 .given .1) (c .before .before .put .ensures)
 
 same-length-2 : tie.Need-same-length-2
 same-length-2 c = search needs
 
 returns-3 : tie.Need-returns-3
-unfolding saidText verdictText
+unfolding saidText apartText
 returns-3 c = rw (c .before .before .before .before .before .verdict .given .1) (c .before .before .put-wrong .ensures)
 
 pub put-verdict-spec : {M : Type 1} → statement M

@@ -1,6 +1,6 @@
 -- `log_passes::beside::beside_end` meets its contract.
 use borrow.Author.Needs.{needs}
-use Rattle.log_passes.specs.Beside.{goesOn}
+use Rattle.log_passes.specs.Beside.{ifMore}
 use Rattle.log_passes.proofs.beside.beside_end.Statement.{statement}
 use Rattle.log_passes.proofs.beside.beside_end.Tie as tie
 
@@ -29,19 +29,19 @@ asked-requires-4 : tie.Need-asked-requires-4
 asked-requires-4 c κs = search needs
 
 returns : tie.Need-returns
-unfolding goesOn
+unfolding ifMore
 returns c = rw (c .before .before .taken .given .1) (c .asked .ensures)
 
 returns-2 : tie.Need-returns-2
-unfolding goesOn
+unfolding ifMore
 returns-2 c = rw (c .before .enum-told .given .1) (c .asked2 .ensures)
 
 returns-3 : tie.Need-returns-3
-unfolding goesOn
+unfolding ifMore
 returns-3 c = rw (c .before .enum-told2 .given .1) (c .asked3 .ensures)
 
 returns-4 : tie.Need-returns-4
-unfolding goesOn
+unfolding ifMore
 returns-4 c = rw (c .before .enum-told3 .given .1) (c .asked4 .ensures)
 
 pub beside-end-spec : {M : Type 1} → statement M

@@ -4,13 +4,13 @@ use Prim.Native.Nat.{_-_, _^_}
 use mathlib.Core.Path.{_≡_, refl, _∙_}
 use lib.ListN.{length}
 use Rattle.pipes.specs.Window.{Within}
-use Rattle.parts_walks.specs.Judged.{Walked}
+use Rattle.parts_walks.specs.Judged.{JudgeWalked}
 use Rattle.parts_walks.proofs.Judging.{begun, goes-on}
 use Rattle.parts_walks.proofs.judge.all.Statement.{statement}
 use Rattle.parts_walks.proofs.judge.all.Tie as tie
 
 abbrev Inv-loop : tie.InvT-loop
-Inv-loop room₀ stand₀ turns₀ room stand turns = (Within (stand .window)) × (length room ≡ length room₀) × (length room ≡ 65536) × (Walked stand₀ room₀ stand room)
+Inv-loop room₀ stand₀ turns₀ room stand turns = (Within (stand .window)) × (length room ≡ length room₀) × (length room ≡ 65536) × (JudgeWalked stand₀ room₀ stand room)
 
 abbrev μ-loop : tie.MeasureT-loop
 μ-loop room₀ stand₀ turns₀ room stand turns = 2 ^ 64 - 1 - turns

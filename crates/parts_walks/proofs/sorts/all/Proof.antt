@@ -4,7 +4,7 @@ use Prim.Native.Nat.{_-_, _^_}
 use mathlib.Core.Path.{_≡_, refl, _∙_}
 use lib.ListN.{length}
 use Rattle.parts_walks.specs.Inputs.{BothWithin}
-use Rattle.parts_walks.specs.Counted.{Walked}
+use Rattle.parts_walks.specs.Counted.{CountWalked}
 use Rattle.parts_walks.proofs.Counting.{begun, goes-on}
 use Rattle.parts_walks.proofs.sorts.all.Statement.{statement}
 use Rattle.parts_walks.proofs.sorts.all.Tie as tie
@@ -20,7 +20,7 @@ Inv-loop sort first₀ second₀ walk₀ turns₀ first second walk turns =
     × (length second ≡ length second₀)
     × (length first ≡ 65536)
     × (length second ≡ 65536)
-    × (Walked sort walk₀ first₀ second₀ walk first second)
+    × (CountWalked sort walk₀ first₀ second₀ walk first second)
 
 abbrev μ-loop : tie.MeasureT-loop
 μ-loop sort first₀ second₀ walk₀ turns₀ first second walk turns = 2 ^ 64 - 1 - turns

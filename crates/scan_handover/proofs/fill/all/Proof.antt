@@ -4,7 +4,7 @@ use mathlib.Core.Path.{_≡_, refl, sym, _∙_, subst}
 use native.Mathlib.Omega.{arith}
 use lib.ListN.{length, drop, length-drop}
 use borrow.Author.Needs.{needs}
-use Rattle.scan_handover.specs.Ready.{Shaped}
+use Rattle.scan_handover.specs.Ready.{NearShaped}
 use Rattle.scan_handover.proofs.Gathers.{Going, starts, ends, cut-length, part-ready, part-gathered}
 use Rattle.scan_handover.proofs.fill.all.Statement.{statement}
 use Rattle.scan_handover.proofs.fill.all.Tie as tie
@@ -57,7 +57,7 @@ run-requires c κs =
     record {
       all = part-ready (a .g) (record { near = a .near; levels = a .levels .now }) (a .samples .now) (a .index) (record { near = l .n; levels = l .levels }) (l .i) end (l .inv .1) (omega arith) (omega (arith, r .ensures .within));
       some = omega (arith, size, r .ensures .some);
-      shaped = subst (λ (k : ℕ). Shaped (a .g) (l .n) k) (sym (size ∙ n)) (r .ensures .shaped);
+      shaped = subst (λ (k : ℕ). NearShaped (a .g) (l .n) k) (sym (size ∙ n)) (r .ensures .shaped);
     }
 
 loop-less : tie.Need-loop-less Inv-loop μ-loop

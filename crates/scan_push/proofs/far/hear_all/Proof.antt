@@ -3,7 +3,7 @@ use Prim.Native.Nat.{ℕ, _+_, _-_}
 use mathlib.Core.Path.{_≡_, refl, sym, _∙_, subst}
 use native.Mathlib.Omega.{arith}
 use lib.ListN.{length}
-use Rattle.scan_push.specs.Ready.{Shaped}
+use Rattle.scan_push.specs.Ready.{FarShaped}
 use Rattle.scan_push.proofs.Pushing.{Going, starts, ends}
 use Rattle.scan_push.proofs.Groups.{cut-length, run-ready, run-heard}
 use borrow.Author.Needs.{needs}
@@ -53,7 +53,7 @@ hear-run-requires c κs =
     let n : end - l .i ≡ r .result = omega arith in
     record {
       all = run-ready (a .slack) (a .g) (record { far = a .far; envelope = a .envelope .now }) (a .samples .now) (record { far = l .f; envelope = l .envelope }) (l .i) end (l .inv .1) (omega arith) (omega (arith, r .ensures .within));
-      shaped = subst (λ (t : ℕ). Shaped (a .g) (l .f) t) (sym (cut-length (a .samples .now) (l .i) end (omega arith) (omega (arith, r .ensures .within)) ∙ n)) (r .ensures .shaped);
+      shaped = subst (λ (t : ℕ). FarShaped (a .g) (l .f) t) (sym (cut-length (a .samples .now) (l .i) end (omega arith) (omega (arith, r .ensures .within)) ∙ n)) (r .ensures .shaped);
     }
 
 loop-less : tie.Need-loop-less Inv-loop μ-loop
