@@ -1,6 +1,6 @@
 // Two microphones, one loudspeaker (request n), on the words that a host lends. crates/scan_pair_words/specs/Layout.antt says where each field of the state stands; the lengths of
 // the lent lists are the scan's. A channel number that is not 0 or 1 is refused with 11 before anything else is looked at.
-use scan_pair_words::answering;
+use scan_handover_face::tell_run;
 use scan_pair_words::loading;
 use scan_pair_words::storing;
 ghost use mathlib.Core.Path.{_≡_};
@@ -173,7 +173,7 @@ pub extern "C" fn tmv_pair_push_near_run(
     );
     let next = handed.pair;
     let answer = handed.answer;
-    storing::settle_in(state, answering::tell_run(values, answer), channel, next)
+    storing::settle_in(state, tell_run(values, answer), channel, next)
 }
 
 // A full frame is scored, as by tmv_scan_observe. Window, prefixes and scores are scratch.
