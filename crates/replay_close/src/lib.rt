@@ -1,5 +1,4 @@
-// From the header of a recording to the end of its log, and what that came to: `replay_loop::all` takes turn after turn; this crate starts the session, lends the room that it is lent, and
-// tells what the loop came to. It is proved to be safe and to end.
+// What a replay came to, once no line comes any more: the last of the log is written, or the verdict on a log told. It is proved to be safe and to end.
 use libc::STDOUT_FILENO;
 use log_hold::Check;
 use log_hold::Verdict;
@@ -8,17 +7,11 @@ use log_lines::Written;
 use log_sink::Text;
 use pipes::told;
 use pipes::window;
-use recording::Header;
-use replay::Begun;
-use replay::Session;
-use replay_inputs::Inputs;
 use replay_sink::Sink;
-use replay_step::Stream;
 use replay_stream::Answer;
 ghost use mathlib.Core.Path.{_≡_};
 ghost use lib.ListN.{length};
 ghost use Rattle.pipes.specs.Window.{Within};
-ghost use Rattle.replay_inputs.specs.Inputs.{AllWithin};
 ghost use Rattle.replay_sink.specs.Sink.{Fits};
 
 // How a replay ended. Done: the log is out, or was found right. Amiss: it is out, and has a refusal or a `bad` line. Wrong: the log that was checked is wrong. Unread: a read of
@@ -120,7 +113,7 @@ fn outcome_of(sink: Sink, over: bool, watched: bool, room: &[u8]) -> Outcome
 }
 
 // No line comes any more. A recording that could not be read has no log.
-fn closed(sink: Sink, unread: u8, over: bool, watched: bool, room: &mut [u8]) -> Outcome
+pub fn closed(sink: Sink, unread: u8, over: bool, watched: bool, room: &mut [u8]) -> Outcome
     requires { ⌜ Fits sink (now room) ⌝ }
 {
     let last = replay_sink::finish(sink, over, room);
@@ -130,147 +123,10 @@ fn closed(sink: Sink, unread: u8, over: bool, watched: bool, room: &mut [u8]) ->
     outcome_of(last, over, watched, room)
 }
 
-// ---- from the header to the end
-
 // A log of the one line `bad header`.
 pub fn unopened(sink: Sink, watched: bool, room: &mut [u8]) -> Outcome
     requires { ⌜ Fits sink (now room) ⌝ }
 {
     let one = replay_sink::take(sink, Answer::Says(Line::BadHeader), room);
     closed(one, 0, true, watched, room)
-}
-
-// The log from its first line on.
-fn played(
-    header: Header,
-    session: Session,
-    inputs: Inputs,
-    sink: Sink,
-    watched: bool,
-    events: &mut [u8],
-    far: &mut [u8],
-    near: &mut [u8],
-    envelope: &mut [f32],
-    levels: &mut [f32],
-    window: &mut [f32],
-    prefix: &mut [f64],
-    squares: &mut [f64],
-    scores: &mut [f64],
-    lag_sums: &mut [f64],
-    room: &mut [u8],
-) -> Stream
-    requires { ⌜ (AllWithin inputs) × (length (now events) ≡ 65536) × (length (now far) ≡ 65536) × (length (now near) ≡ 65536) × (Fits sink (now room)) ⌝ }
-    ensures { λ r. ⌜ Fits (r .sink) (now (room .exit)) ⌝ }
-{
-    let first = replay_step::opening(session, inputs, sink, watched);
-    replay_loop::all(
-        header,
-        first,
-        events,
-        far,
-        near,
-        envelope,
-        levels,
-        window,
-        prefix,
-        squares,
-        scores,
-        lag_sums,
-        room,
-    )
-}
-
-fn ended(
-    header: Header,
-    session: Session,
-    inputs: Inputs,
-    sink: Sink,
-    watched: bool,
-    events: &mut [u8],
-    far: &mut [u8],
-    near: &mut [u8],
-    envelope: &mut [f32],
-    levels: &mut [f32],
-    window: &mut [f32],
-    prefix: &mut [f64],
-    squares: &mut [f64],
-    scores: &mut [f64],
-    lag_sums: &mut [f64],
-    room: &mut [u8],
-) -> Outcome
-    requires { ⌜ (AllWithin inputs) × (length (now events) ≡ 65536) × (length (now far) ≡ 65536) × (length (now near) ≡ 65536) × (Fits sink (now room)) ⌝ }
-{
-    let last = played(
-        header,
-        session,
-        inputs,
-        sink,
-        watched,
-        events,
-        far,
-        near,
-        envelope,
-        levels,
-        window,
-        prefix,
-        squares,
-        scores,
-        lag_sums,
-        room,
-    );
-    let sink = last.sink;
-    let unread = replay_inputs::failed(last.inputs);
-    closed(sink, unread, last.over, watched, room)
-}
-
-// With buffers of the lengths that the header asks for.
-pub fn started(
-    header: Header,
-    inputs: Inputs,
-    sink: Sink,
-    watched: bool,
-    events: &mut [u8],
-    far: &mut [u8],
-    near: &mut [u8],
-    envelope: &mut [f32],
-    levels: &mut [f32],
-    window: &mut [f32],
-    prefix: &mut [f64],
-    squares: &mut [f64],
-    scores: &mut [f64],
-    lag_sums: &mut [f64],
-    room: &mut [u8],
-) -> Outcome
-    requires { ⌜ (AllWithin inputs) × (length (now events) ≡ 65536) × (length (now far) ≡ 65536) × (length (now near) ≡ 65536) × (Fits sink (now room)) ⌝ }
-{
-    match replay::start(
-        header,
-        envelope,
-        levels,
-        window,
-        prefix,
-        squares,
-        scores,
-        lag_sums,
-    ) {
-        Begun::Refused(_) => Outcome::Broken,
-        Begun::Ready(session) => ended(
-            header,
-            session,
-            inputs,
-            sink,
-            watched,
-            events,
-            far,
-            near,
-            envelope,
-            levels,
-            window,
-            prefix,
-            squares,
-            scores,
-            lag_sums,
-            room,
-        ),
-    }
 }

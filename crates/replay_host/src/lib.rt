@@ -1,4 +1,4 @@
-// A recording in three open files, replayed: the lines of its log are written to a fourth, or held against a log there. This crate makes the room and opens the recording; `replay_close`
+// A recording in three open files, replayed: the lines of its log are written to a fourth, or held against a log there. This crate makes the room and opens the recording; `replay_run`
 // goes on from there. It is proved to be safe and to end.
 use pipes::window;
 use pipes::window::Window;
@@ -52,7 +52,7 @@ fn sized(
     let q = least(bins + 1, squares.len());
     let s = least(g.span + 1, scores.len());
     let t = least(g.span + 1, lag_sums.len());
-    replay_close::started(
+    replay_run::started(
         header,
         inputs,
         sink,

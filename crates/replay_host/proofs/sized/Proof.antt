@@ -7,7 +7,7 @@ use Rattle.replay_host.proofs.sized.Tie as tie
 use Rattle.replay_host.proofs.sized.Reads as reads
 use Rattle.replay_host.proofs.sized.Lts as lts
 use Rattle.replay_host.proofs.least.Reads as least-reads
-use Rattle.replay_close.proofs.started.Reads as started-reads
+use Rattle.replay_run.proofs.started.Reads as started-reads
 use Rattle.scan_calls.proofs.rules.envelope_len.Reads as envelope-len-reads
 use Rattle.scan_calls.proofs.rules.geometry_of.Reads as geometry-of-reads
 

@@ -1,7 +1,7 @@
--- `replay_close::played` is safe and ends.
+-- `replay_run::played` is safe and ends.
 use borrow.Author.Needs.{needs}
-use Rattle.replay_close.proofs.played.Statement.{statement}
-use Rattle.replay_close.proofs.played.Tie as tie
+use Rattle.replay_run.proofs.played.Statement.{statement}
+use Rattle.replay_run.proofs.played.Tie as tie
 
 opening-requires : tie.Need-opening-requires
 opening-requires c κs = search needs

@@ -1,8 +1,8 @@
--- `replay_close::started` is safe and ends.
+-- `replay_run::started` is safe and ends.
 use borrow.Author.Needs.{needs}
 use mathlib.Core.Path.{_∙_}
-use Rattle.replay_close.proofs.started.Statement.{statement}
-use Rattle.replay_close.proofs.started.Tie as tie
+use Rattle.replay_run.proofs.started.Statement.{statement}
+use Rattle.replay_run.proofs.started.Tie as tie
 
 start-requires : tie.Need-start-requires
 start-requires c κs = search needs
