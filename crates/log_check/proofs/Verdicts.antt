@@ -17,12 +17,12 @@ use Rattle.log_hold.specs.declared.Stands.the-variants.{Right, Wrong, Over}
 use Rattle.recording.specs.declared.Header.{Header}
 use Rattle.recording.specs.declared.Start.the-variants as start
 use Rattle.recording.specs.Recording.{opened}
-use Rattle.replay.specs.Beginning.{beginning, begins}
+use Rattle.replay.specs.Beginning.{beginning, beginningOf}
 use Rattle.replay.specs.Log.{logOf}
 use Rattle.replay.specs.declared.Session.{Session}
 use Rattle.replay.specs.declared.Begun.the-variants as begun
 use Rattle.replay_stream.specs.Stream.{Piece, short}
-use Rattle.replay_stream.specs.Hosts.{Rest, rest, unused, Front, Call, Noted, opens, Streamed, Streams}
+use Rattle.replay_stream.specs.Hosts.{Rest, rest, restAfter, Front, NextCall, Noted, opens, Streamed, Streams}
 use Rattle.replay_stream.specs.Hosts as hosts
 use Rattle.replay_stream.specs.declared.Place.{Place}
 use Rattle.replay_stream.specs.declared.Answer.{Answer}
@@ -85,12 +85,12 @@ module _ (events far near : List ℕ) (h : Header) where
   abbrev StandsAt : Place → Rest → Type 0
   StandsAt q r = turning.StandsAt events far near h q r
 
-  module _ (q : Place) (b : Buffers) (r : Rest) (c : Call h q b r) (st : StandsAt q r) where
+  module _ (q : Place) (b : Buffers) (r : Rest) (c : NextCall h q b r) (st : StandsAt q r) where
     call-law : turning.At events far near h q b r (c .hand) (c .gave)
     call-law = subst (turning.At events far near h q b r (c .hand)) (sym (c .contract)) (turning.next-law events far near h q b r (c .hand) st (c .fair))
 
     abbrev after : List Line
-    after = lines (c .gave .place) (c .gave .buffers) (unused (c .gave .used) r)
+    after = lines (c .gave .place) (c .gave .buffers) (restAfter (c .gave .used) r)
 
     answered : (a : Answer) → c .gave .answer ≡ a → said a ++ after ≡ lines q b r
     answered a e = ap (λ (x : Answer). said x ++ after) (sym e) ∙ sym (call-law .tells)
@@ -100,10 +100,10 @@ module _ (events far near : List ℕ) (h : Header) where
 
   pub checking-apart : (q : Place) (b : Buffers) (r : Rest) (k : ℕ) (log : List ℕ) (v : Apart) → Checking h q b r k log v → StandsAt q r → v ≡ firstApart k (linesOf log) (map textOf (lines q b r))
   checking-apart q b r k log v (host.wants q₁ b₁ r₁ k₁ log₁ v₁ i c e later) st =
-      checking-apart (c .gave .place) (c .gave .buffers) (unused (c .gave .used) r₁) k₁ log₁ v₁ later (call-law q₁ b₁ r₁ c st .stands)
+      checking-apart (c .gave .place) (c .gave .buffers) (restAfter (c .gave .used) r₁) k₁ log₁ v₁ later (call-law q₁ b₁ r₁ c st .stands)
       ∙ ap (λ (ls : List Line). firstApart k₁ (linesOf log₁) (map textOf ls)) (answered q₁ b₁ r₁ c st (answer.Wants i) e)
   checking-apart q b r k log v (host.right q₁ b₁ r₁ k₁ l log₁ v₁ n c p f e right later) st =
-      checking-apart (c .gave .place) (c .gave .buffers) (unused (c .gave .used) r₁) (k₁ + 1) (drop n (p .bytes) ++ f .later) v₁ later (call-law q₁ b₁ r₁ c st .stands)
+      checking-apart (c .gave .place) (c .gave .buffers) (restAfter (c .gave .used) r₁) (k₁ + 1) (drop n (p .bytes) ++ f .later) v₁ later (call-law q₁ b₁ r₁ c st .stands)
       ∙ sym (right-here log₁ p f k₁ l (map textOf (after q₁ b₁ r₁ c st)) n right)
       ∙ ap (λ (ls : List Line). firstApart k₁ (linesOf log₁) (map textOf ls)) (answered q₁ b₁ r₁ c st (answer.Says l) e)
   checking-apart q b r k log v (host.wrong q₁ b₁ r₁ k₁ l log₁ c p f e wrong) st =
@@ -115,7 +115,7 @@ module _ (events far near : List ℕ) (h : Header) where
       over-here log₁ p f k₁ over ∙ ap (λ (ls : List Line). firstApart k₁ (linesOf log₁) (map textOf ls)) (over-none q₁ b₁ r₁ c st e)
 
 -- what is to come at the start is the log
-start-log : (events far near : List ℕ) (h : Header) (lent cleared : Buffers) (s : Session) → opened events ≡ start.Opened h → beginning (begun.Ready s) cleared ≡ begins h lent
+start-log : (events far near : List ℕ) (h : Header) (lent cleared : Buffers) (s : Session) → opened events ≡ start.Opened h → beginning (begun.Ready s) cleared ≡ beginningOf h lent
     → to-come events far near h (opens s) cleared (rest (drop 24 events) far near) ≡ logOf events far near
 start-log events far near h lent cleared s q ready =
     let r = rest (drop 24 events) far near in

@@ -17,11 +17,11 @@ use Rattle.log_hold.specs.declared.Stands.the-variants.{Right, Wrong, Over}
 use Rattle.recording.specs.Recording.{opened}
 use Rattle.recording.specs.declared.Header.{Header}
 use Rattle.recording.specs.declared.Start.the-variants as start
-use Rattle.replay.specs.Beginning.{beginning, begins}
+use Rattle.replay.specs.Beginning.{beginning, beginningOf}
 use Rattle.replay.specs.declared.Session.{Session}
 use Rattle.replay.specs.declared.Begun.the-variants as begun
 use Rattle.replay_stream.specs.Stream.{Piece, short}
-use Rattle.replay_stream.specs.Hosts.{Rest, rest, unused, Front, Call, opens}
+use Rattle.replay_stream.specs.Hosts.{Rest, rest, restAfter, Front, NextCall, opens}
 use Rattle.replay_stream.specs.declared.Place.{Place}
 use Rattle.replay_stream.specs.declared.Input.{Input}
 use Rattle.replay_stream.specs.declared.Answer.the-variants as answer
@@ -40,21 +40,21 @@ pub data Holds : ℕ → List Line → List ℕ → Apart → Type 0 where
 
 -- against the lines that the calls tell
 pub data Checking (h : Header) : Place → Buffers → Rest → ℕ → List ℕ → Apart → Type 0 where
-  wants : (q : Place) (b : Buffers) (r : Rest) (k : ℕ) (log : List ℕ) (v : Apart) (i : Input) (c : Call h q b r) → c .gave .answer ≡ answer.Wants i
-      → Checking h (c .gave .place) (c .gave .buffers) (unused (c .gave .used) r) k log v → Checking h q b r k log v
-  right : (q : Place) (b : Buffers) (r : Rest) (k : ℕ) (l : Line) (log : List ℕ) (v : Apart) (n : ℕ) (c : Call h q b r) (p : Piece) (f : Front log p) → c .gave .answer ≡ answer.Says l
+  wants : (q : Place) (b : Buffers) (r : Rest) (k : ℕ) (log : List ℕ) (v : Apart) (i : Input) (c : NextCall h q b r) → c .gave .answer ≡ answer.Wants i
+      → Checking h (c .gave .place) (c .gave .buffers) (restAfter (c .gave .used) r) k log v → Checking h q b r k log v
+  right : (q : Place) (b : Buffers) (r : Rest) (k : ℕ) (l : Line) (log : List ℕ) (v : Apart) (n : ℕ) (c : NextCall h q b r) (p : Piece) (f : Front log p) → c .gave .answer ≡ answer.Says l
       → held (due.Line l) (p .bytes) (p .ended) ≡ Right n
-      → Checking h (c .gave .place) (c .gave .buffers) (unused (c .gave .used) r) (k + 1) (drop n (p .bytes) ++ f .later) v → Checking h q b r k log v
-  wrong : (q : Place) (b : Buffers) (r : Rest) (k : ℕ) (l : Line) (log : List ℕ) (c : Call h q b r) (p : Piece) (f : Front log p) → c .gave .answer ≡ answer.Says l
+      → Checking h (c .gave .place) (c .gave .buffers) (restAfter (c .gave .used) r) (k + 1) (drop n (p .bytes) ++ f .later) v → Checking h q b r k log v
+  wrong : (q : Place) (b : Buffers) (r : Rest) (k : ℕ) (l : Line) (log : List ℕ) (c : NextCall h q b r) (p : Piece) (f : Front log p) → c .gave .answer ≡ answer.Says l
       → held (due.Line l) (p .bytes) (p .ended) ≡ Wrong → Checking h q b r k log (wrongAt k log (There (textOf l)))
-  extra : (q : Place) (b : Buffers) (r : Rest) (k : ℕ) (log : List ℕ) (c : Call h q b r) (p : Piece) (f : Front log p) → c .gave .answer ≡ answer.Over
+  extra : (q : Place) (b : Buffers) (r : Rest) (k : ℕ) (log : List ℕ) (c : NextCall h q b r) (p : Piece) (f : Front log p) → c .gave .answer ≡ answer.Over
       → held due.Nothing (p .bytes) (p .ended) ≡ Wrong → Checking h q b r k log (wrongAt k log Nothing)
-  accepted : (q : Place) (b : Buffers) (r : Rest) (k : ℕ) (log : List ℕ) (c : Call h q b r) (p : Piece) (f : Front log p) → c .gave .answer ≡ answer.Over
+  accepted : (q : Place) (b : Buffers) (r : Rest) (k : ℕ) (log : List ℕ) (c : NextCall h q b r) (p : Piece) (f : Front log p) → c .gave .answer ≡ answer.Over
       → held due.Nothing (p .bytes) (p .ended) ≡ Over → Checking h q b r k log Same
 
 -- all of it: the header is read from 24 bytes at hand, or from all where there are fewer, and the log's lines are numbered from 1
 pub data Checks (events far near log : List ℕ) : Apart → Type 0 where
   unopened : (v : Apart) (first : Piece) → Front events first → short 24 first ≡ false → opened (first .bytes) ≡ start.BadHeader → Holds 1 (line.BadHeader ∷ []) log v → Checks events far near log v
   checks : (v : Apart) (first : Piece) (h : Header) (lent cleared : Buffers) (s : Session) → Front events first → short 24 first ≡ false
-      → opened (first .bytes) ≡ start.Opened h → beginning (begun.Ready s) cleared ≡ begins h lent
+      → opened (first .bytes) ≡ start.Opened h → beginning (begun.Ready s) cleared ≡ beginningOf h lent
       → Checking h (opens s) cleared (rest (drop 24 events) far near) 1 log v → Checks events far near log v

@@ -19,7 +19,7 @@ use Rattle.scan_calls.proofs.Chains.{turned-down, accepted, first, second}
 use Rattle.tracker.specs.Tracker.{made, fresh}
 use Rattle.recording.specs.declared.Header.{Header}
 use Rattle.replay.specs.Log.{newSession, clearBuffers}
-use Rattle.replay.specs.Beginning.{beginning, startRefusal, begins}
+use Rattle.replay.specs.Beginning.{beginning, startRefusal, beginningOf}
 use Rattle.replay.specs.declared.Session.{Session}
 use Rattle.replay.specs.declared.Begun.the-variants as begun
 
@@ -58,21 +58,21 @@ cleared g b t =
     rw (e₀, e₁, e₂, e₃, e₄, e₅, e₆)
 
 module _ (h : Header) (b : Buffers) {n : ℕ} (is : n ≡ startRefusal (h .rate) (h .ceiling) b) where
-  pub not-begun : (n ≡ 0 → ⊥) → beginning (begun.Refused n) b ≡ begins h b
-  unfolding begins
+  pub not-begun : (n ≡ 0 → ⊥) → beginning (begun.Refused n) b ≡ beginningOf h b
+  unfolding beginningOf
   not-begun f = turned-down is _ f (rw is)
 
   pub within-table : n ≡ 0 → inTable (h .rate) (h .ceiling) ≡ true
   unfolding startRefusal
   within-table z = passed (inTable (h .rate) (h .ceiling)) 0 _ (sym is ∙ z) .0
 
-  is-begun : n ≡ 0 → beginning (begun.Ready (newSession (h .rate) (h .ceiling))) (allZeros b) ≡ begins h b
-  unfolding begins startRefusal
+  is-begun : n ≡ 0 → beginning (begun.Ready (newSession (h .rate) (h .ceiling))) (allZeros b) ≡ beginningOf h b
+  unfolding beginningOf startRefusal
   is-begun z =
       let one = passed (inTable (h .rate) (h .ceiling)) 0 _ (sym is ∙ z) in
       let two = passed (allLengths fullSlack (geometryOf (h .rate) (h .ceiling)) b) 1 _ (one .1) in
       accepted is _ z (ap (beginning (begun.Ready (newSession (h .rate) (h .ceiling)))) (cleared (geometryOf (h .rate) (h .ceiling)) b (two .0)))
 
   -- the same of what the code made
-  pub has-begun : (s : Session) (z : Buffers) → n ≡ 0 → s ≡ newSession (h .rate) (h .ceiling) → z ≡ allZeros b → beginning (begun.Ready s) z ≡ begins h b
+  pub has-begun : (s : Session) (z : Buffers) → n ≡ 0 → s ≡ newSession (h .rate) (h .ceiling) → z ≡ allZeros b → beginning (begun.Ready s) z ≡ beginningOf h b
   has-begun s z zero e f = rw (e, f) (is-begun zero)

@@ -17,7 +17,7 @@ use Rattle.recording.specs.Recording.{opened, u32At, headerAt}
 use Rattle.recording.specs.declared.Header.{Header}
 use Rattle.recording.specs.declared.Start.the-variants as start
 use Rattle.replay.specs.Log.{newSession, clearBuffers}
-use Rattle.replay.specs.Beginning.{Beginning, beginning, startRefusal, begins}
+use Rattle.replay.specs.Beginning.{Beginning, beginning, startRefusal, beginningOf}
 use Rattle.replay.specs.declared.Session.{Session}
 use Rattle.replay.specs.declared.Begun.the-variants as begun
 
@@ -30,9 +30,9 @@ ready-for false n s s₁ b c c₁ e =
     absurd (omega (arith, z))
 
 -- a start that is ready has a new session and clear buffers
-pub ready-is : (h : Header) (b c : Buffers) (s : Session) → beginning (begun.Ready s) c ≡ begins h b
+pub ready-is : (h : Header) (b c : Buffers) (s : Session) → beginning (begun.Ready s) c ≡ beginningOf h b
     → (s ≡ newSession (h .rate) (h .ceiling)) × (c ≡ clearBuffers (geometryOf (h .rate) (h .ceiling)))
-unfolding begins
+unfolding beginningOf
 ready-is h b c s e =
     ready-for (eqb (startRefusal (h .rate) (h .ceiling) b) 0) (startRefusal (h .rate) (h .ceiling) b) s (newSession (h .rate) (h .ceiling)) b c (clearBuffers (geometryOf (h .rate) (h .ceiling))) e
 
@@ -51,8 +51,8 @@ opened-in-table events h q =
 
 -- with buffers of the right lengths `start` never refuses a header that was opened
 pub accepts : (events : List ℕ) (h : Header) (b : Buffers) → opened events ≡ start.Opened h → allLengths fullSlack (geometryOf (h .rate) (h .ceiling)) b ≡ true
-    → begins h b ≡ beginning (begun.Ready (newSession (h .rate) (h .ceiling))) (clearBuffers (geometryOf (h .rate) (h .ceiling)))
-unfolding begins startRefusal
+    → beginningOf h b ≡ beginning (begun.Ready (newSession (h .rate) (h .ceiling))) (clearBuffers (geometryOf (h .rate) (h .ceiling)))
+unfolding beginningOf startRefusal
 accepts events h b q fit =
     let none : startRefusal (h .rate) (h .ceiling) b ≡ 0 = pick-true _ _ _ (opened-in-table events h q) ∙ pick-true _ _ _ fit in
     pick-true _ _ _ (eq-eqb (startRefusal (h .rate) (h .ceiling) b) 0 none)

@@ -24,8 +24,8 @@ startRefusal rate ceiling b =
     (require (allLengths fullSlack (geometryOf rate ceiling) b) wrongLength
     none)
 
-unfoldable pub begins : Header → Buffers → Beginning
-begins h b =
+unfoldable pub beginningOf : Header → Buffers → Beginning
+beginningOf h b =
     let n = startRefusal (h .rate) (h .ceiling) b in
     ifRefused n
     (beginning (begun.Refused n) b)

@@ -65,14 +65,14 @@ abbrev pub eventNumber : List ℕ → ℕ → Entry
 eventNumber events e = eventAt events (24 + 16 * e)
 
 -- event number e
-abbrev pub step : Inputs → Header → ℕ → Session → Buffers → Play
-step i h e s b = stepped h (i .lengths) e s b (eventNumber (i .events) e) (samplesFor i (s .used) (eventNumber (i .events) e))
+abbrev pub stepAt : Inputs → Header → ℕ → Session → Buffers → Play
+stepAt i h e s b = stepped h (i .lengths) e s b (eventNumber (i .events) e) (samplesFor i (s .used) (eventNumber (i .events) e))
 
 -- `left` events from number e on, and what closes the log
 unfoldable pub linesFrom : Inputs → Header → ℕ → ℕ → Session → Buffers → List Line
 linesFrom i h zero e s b = closing h s ∷ []
 linesFrom i h (suc left) e s b =
-    let p = step i h e s b in
+    let p = stepAt i h e s b in
     p .lines ++ pick (p .ends) [] (linesFrom i h left (e + 1) (p .session) (p .buffers))
 
 abbrev pub started : Inputs → Start → List Line

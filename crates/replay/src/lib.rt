@@ -12,7 +12,7 @@ ghost use mathlib.Core.Path.{_≡_};
 ghost use Rattle.log_lines.specs.declared.Line.the-variants as line;
 ghost use Rattle.scan_score.specs.Observing.{lent};
 ghost use Rattle.replay.specs.Log;
-ghost use Rattle.replay.specs.Beginning.{beginning, begins};
+ghost use Rattle.replay.specs.Beginning.{beginning, beginningOf};
 
 // What is carried from one event to the next, beside the scan's lent buffers. frames and cycles are the numbers of the next of each.
 pub struct Session {
@@ -58,7 +58,7 @@ pub fn start(
     scores: &mut [f64],
     lag_sums: &mut [f64],
 ) -> Begun
-    ensures { λ r. ⌜ beginning r (lent (now (envelope .exit)) (now (levels .exit)) (now (window .exit)) (now (prefix .exit)) (now (squares .exit)) (now (scores .exit)) (now («lag_sums» .exit))) ≡ begins header (lent (now (envelope .entry)) (now (levels .entry)) (now (window .entry)) (now (prefix .entry)) (now (squares .entry)) (now (scores .entry)) (now («lag_sums» .entry))) ⌝ }
+    ensures { λ r. ⌜ beginning r (lent (now (envelope .exit)) (now (levels .exit)) (now (window .exit)) (now (prefix .exit)) (now (squares .exit)) (now (scores .exit)) (now («lag_sums» .exit))) ≡ beginningOf header (lent (now (envelope .entry)) (now (levels .entry)) (now (window .entry)) (now (prefix .entry)) (now (squares .entry)) (now (scores .entry)) (now («lag_sums» .entry))) ⌝ }
 {
     let n = starting::refusal(
         header.rate,

@@ -28,7 +28,7 @@ use Rattle.tracker.specs.declared.Outcome.the-variants as outcome
 use Rattle.replay.specs.Words.{changeLines, cycleLine, cyclesAfter}
 use Rattle.replay.specs.Events.{withScan, withUsed, withTracker, afterAdmission, nearPlayed, cyclePlayed, seamPlayed, eventPlayed, stepped}
 use Rattle.replay.specs.declared.Session.{Session}
-use Rattle.replay_stream.specs.Stream.{Piece, Hand, Next, bytes, next, waits, told, midway, FarSamples, NearSamples, awaited, handed, seen, entered, entryTurn}
+use Rattle.replay_stream.specs.Stream.{Piece, Hand, Next, bytesUsed, next, waits, told, midway, FarSamples, NearSamples, awaited, handed, seen, entered, entryTurn}
 use Rattle.replay_stream.specs.declared.Stage.the-variants.{Events, Midway, Closed}
 use Rattle.replay_stream.specs.declared.Input.the-variants.{FarSide, NearSide}
 use Rattle.replay_stream.specs.declared.Answer.the-variants.{Says, Silent}
@@ -49,7 +49,7 @@ supply-there used total count p q =
 
 module _ (h : Header) (n : ℕ) (s : Session) (b : Buffers) (hand : Hand) where
   abbrev bad : Next
-  bad = next n Closed s b (Says (line.BadEvent n)) (bytes 0 0 0)
+  bad = next n Closed s b (Says (line.BadEvent n)) (bytesUsed 0 0 0)
 
   pub bad-is : entryTurn h n s b hand entry.Bad ≡ bad
   unfolding entryTurn stepped pick
@@ -78,7 +78,7 @@ module _ (h : Header) (n : ℕ) (s : Session) (b : Buffers) (hand : Hand) where
         pick-false _ _ _ (w .0) ∙ ap far (pick-false _ _ _ (w .1)) ∙ pick-true true _ _ refl
 
     pub far-pushed : supplyOf (s .used .far) (h .far) count (hand .far) ≡ supply.AtHand → farEntry
-        ≡ next (n + 1) Events (withScan (withUsed s (usedUp (s .used .far + count) (s .used .near))) (push .changed .scan)) (withEnvelope b (push .envelope)) (told (changeLines n (push .changed .answer))) (bytes 16 (4 * count) 0)
+        ≡ next (n + 1) Events (withScan (withUsed s (usedUp (s .used .far + count) (s .used .near))) (push .changed .scan)) (withEnvelope b (push .envelope)) (told (changeLines n (push .changed .answer))) (bytesUsed 16 (4 * count) 0)
     unfolding entryTurn stepped admitted eventPlayed supplyOf
     far-pushed q =
         let w = of-at-hand _ _ q in
@@ -104,7 +104,7 @@ module _ (h : Header) (n : ℕ) (s : Session) (b : Buffers) (hand : Hand) where
         pick-false _ _ _ (w .0) ∙ ap near (pick-false _ _ _ (w .1)) ∙ pick-true true _ _ refl
 
     pub near-entered : supplyOf (s .used .near) (h .near) count (hand .near) ≡ supply.AtHand
-        → nearEntry ≡ next (n + 1) (midway n first count) (withUsed s (usedUp (s .used .far) (s .used .near + count))) b Silent (bytes 16 0 0)
+        → nearEntry ≡ next (n + 1) (midway n first count) (withUsed s (usedUp (s .used .far) (s .used .near + count))) b Silent (bytesUsed 16 0 0)
     unfolding entryTurn stepped admitted eventPlayed nearPlayed supplyOf
     near-entered q =
         let w = of-at-hand _ _ q in
@@ -113,7 +113,7 @@ module _ (h : Header) (n : ℕ) (s : Session) (b : Buffers) (hand : Hand) where
   -- ---- events without samples
 
   abbrev cleared : Clearing → Next
-  cleared p = next (n + 1) Events (withScan (withUsed s (s .used)) (p .changed .scan)) (withLagSums b (p .lagSums)) (told (changeLines n (p .changed .answer))) (bytes 16 0 0)
+  cleared p = next (n + 1) Events (withScan (withUsed s (s .used)) (p .changed .scan)) (withLagSums b (p .lagSums)) (told (changeLines n (p .changed .answer))) (bytesUsed 16 0 0)
 
   pub rearm-is : entryTurn h n s b hand (entry.Good event.Rearm) ≡ cleared (rearmed (s .scan) (b .lagSums))
   unfolding entryTurn stepped admitted eventPlayed pick
@@ -126,7 +126,7 @@ module _ (h : Header) (n : ℕ) (s : Session) (b : Buffers) (hand : Hand) where
   abbrev cycles : Samples → Outcome → Next
   cycles alignment o =
       let c = cycled (s .tracker) alignment o in
-      next (n + 1) Events (withTracker (withUsed s (s .used)) (c .tracker) (cyclesAfter (s .cycles) (c .verdict))) b (Says (cycleLine n (s .cycles) (c .verdict))) (bytes 16 0 0)
+      next (n + 1) Events (withTracker (withUsed s (s .used)) (c .tracker) (cyclesAfter (s .cycles) (c .verdict))) b (Says (cycleLine n (s .cycles) (c .verdict))) (bytesUsed 16 0 0)
 
   pub unconfident-is : entryTurn h n s b hand (entry.Good event.Unconfident) ≡ cycles (samples 0) outcome.Unconfident
   unfolding entryTurn stepped admitted eventPlayed cyclePlayed pick
@@ -141,6 +141,6 @@ module _ (h : Header) (n : ℕ) (s : Session) (b : Buffers) (hand : Hand) where
   edge-is alignment delay = refl
 
   pub seam-is : entryTurn h n s b hand (entry.Good event.Discontinuity)
-      ≡ next (n + 1) Events (withTracker (withUsed s (s .used)) (seamed (s .tracker) .tracker) (s .cycles)) b (told (changeLines n (seamed (s .tracker) .answer))) (bytes 16 0 0)
+      ≡ next (n + 1) Events (withTracker (withUsed s (s .used)) (seamed (s .tracker) .tracker) (s .cycles)) b (told (changeLines n (seamed (s .tracker) .answer))) (bytesUsed 16 0 0)
   unfolding entryTurn stepped admitted eventPlayed seamPlayed pick
   seam-is = refl

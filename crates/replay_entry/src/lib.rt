@@ -39,7 +39,7 @@ ghost use Rattle.tracker.specs.Tracker.{seamed};
 ghost use Rattle.tracker.specs.Cycle.{cycled};
 ghost use Rattle.replay.specs.Words.{changeLines, cycleLine, cyclesAfter};
 ghost use Rattle.replay.specs.Events.{withScan, withUsed, withTracker};
-ghost use Rattle.replay_stream.specs.Stream.{Piece, bytes, short, told, midway, Few, needOf, entryTurn};
+ghost use Rattle.replay_stream.specs.Stream.{Piece, bytesUsed, short, told, midway, Few, needOf, entryTurn};
 ghost use Rattle.replay_stream.specs.declared.Stage.the-variants.{Events, Closed};
 ghost use Rattle.replay_stream.specs.declared.Answer.the-variants.{Says, Silent, Wants};
 ghost use Rattle.replay_near.specs.Telling.{Room, Holds};
@@ -57,7 +57,7 @@ pub enum Supply {
 
 // More of an input is wanted, and nothing was done.
 fn waits(number: u32, session: Session, input: Input) -> Turned
-    ensures { λ r. ⌜ r ≡ turned number Events session (Wants input) (bytes 0 0 0) ⌝ }
+    ensures { λ r. ⌜ r ≡ turned number Events session (Wants input) (bytesUsed 0 0 0) ⌝ }
 {
     Turned {
         place: Place {
@@ -76,7 +76,7 @@ fn waits(number: u32, session: Session, input: Input) -> Turned
 
 // A bad event ends the log.
 fn bad(number: u32, session: Session) -> Turned
-    ensures { λ r. ⌜ r ≡ turned number Closed session (Says (line.BadEvent number)) (bytes 0 0 0) ⌝ }
+    ensures { λ r. ⌜ r ≡ turned number Closed session (Says (line.BadEvent number)) (bytesUsed 0 0 0) ⌝ }
 {
     let line = Line::BadEvent(number);
     Turned {
@@ -97,7 +97,7 @@ fn bad(number: u32, session: Session) -> Turned
 // The log goes on behind the event.
 fn goes_on(number: u32, stage: Stage, session: Session, answer: Answer, far: usize) -> Turned
     requires { ⌜ number < 2 ^ 32 - 1 ⌝ }
-    ensures { λ r. ⌜ r ≡ turned (number + 1) stage session answer (bytes 16 far 0) ⌝ }
+    ensures { λ r. ⌜ r ≡ turned (number + 1) stage session answer (bytesUsed 16 far 0) ⌝ }
 {
     Turned {
         place: Place {
@@ -131,7 +131,7 @@ fn change_answer(number: u32, answer: Change) -> Answer
 // A far push, a rearm or a discard has changed the scan, or was refused.
 fn changed(number: u32, session: Session, used: Used, change: Changed, far: usize) -> Turned
     requires { ⌜ number < 2 ^ 32 - 1 ⌝ }
-    ensures { λ r. ⌜ r ≡ turned (number + 1) Events (withScan (withUsed session used) (change .scan)) (told (changeLines number (change .answer))) (bytes 16 far 0) ⌝ }
+    ensures { λ r. ⌜ r ≡ turned (number + 1) Events (withScan (withUsed session used) (change .scan)) (told (changeLines number (change .answer))) (bytesUsed 16 far 0) ⌝ }
 {
     let scan = change.scan;
     let told = change.answer;
@@ -142,7 +142,7 @@ fn changed(number: u32, session: Session, used: Used, change: Changed, far: usiz
 
 fn cycle(number: u32, session: Session, alignment: Samples, outcome: Outcome) -> Turned
     requires { ⌜ number < 2 ^ 32 - 1 ⌝ }
-    ensures { λ r. ⌜ r ≡ turned (number + 1) Events (withTracker (withUsed session (session .used)) (cycled (session .tracker) alignment outcome .tracker) (cyclesAfter (session .cycles) (cycled (session .tracker) alignment outcome .verdict))) (Says (cycleLine number (session .cycles) (cycled (session .tracker) alignment outcome .verdict))) (bytes 16 0 0) ⌝ }
+    ensures { λ r. ⌜ r ≡ turned (number + 1) Events (withTracker (withUsed session (session .used)) (cycled (session .tracker) alignment outcome .tracker) (cyclesAfter (session .cycles) (cycled (session .tracker) alignment outcome .verdict))) (Says (cycleLine number (session .cycles) (cycled (session .tracker) alignment outcome .verdict))) (bytesUsed 16 0 0) ⌝ }
 {
     let before = session.tracker;
     let used = session.used;
@@ -157,7 +157,7 @@ fn cycle(number: u32, session: Session, alignment: Samples, outcome: Outcome) ->
 
 fn discontinuity(number: u32, session: Session) -> Turned
     requires { ⌜ number < 2 ^ 32 - 1 ⌝ }
-    ensures { λ r. ⌜ r ≡ turned (number + 1) Events (withTracker (withUsed session (session .used)) (seamed (session .tracker) .tracker) (session .cycles)) (told (changeLines number (seamed (session .tracker) .answer))) (bytes 16 0 0) ⌝ }
+    ensures { λ r. ⌜ r ≡ turned (number + 1) Events (withTracker (withUsed session (session .used)) (seamed (session .tracker) .tracker) (session .cycles)) (told (changeLines number (seamed (session .tracker) .answer))) (bytesUsed 16 0 0) ⌝ }
 {
     let before = session.tracker;
     let used = session.used;
@@ -188,7 +188,7 @@ fn push_far(
     envelope: &mut [f32],
 ) -> Turned
     requires { ⌜ (number < 2 ^ 32 - 1) × Room count (now far) (now samples) × (session .used .far + count < 2 ^ 64) ⌝ }
-    ensures turns { λ r. ⌜ r ≡ turned (number + 1) Events (withScan (withUsed session (usedUp (session .used .far + count) (session .used .near))) (pushedFar fullSlack (session .scan) (now (envelope .entry)) (samplesIn (now (far .entry)) count) .changed .scan)) (told (changeLines number (pushedFar fullSlack (session .scan) (now (envelope .entry)) (samplesIn (now (far .entry)) count) .changed .answer))) (bytes 16 (4 * count) 0) ⌝ }
+    ensures turns { λ r. ⌜ r ≡ turned (number + 1) Events (withScan (withUsed session (usedUp (session .used .far + count) (session .used .near))) (pushedFar fullSlack (session .scan) (now (envelope .entry)) (samplesIn (now (far .entry)) count) .changed .scan)) (told (changeLines number (pushedFar fullSlack (session .scan) (now (envelope .entry)) (samplesIn (now (far .entry)) count) .changed .answer))) (bytesUsed 16 (4 * count) 0) ⌝ }
     ensures leaves { λ r. ⌜ now (envelope .exit) ≡ pushedFar fullSlack (session .scan) (now (envelope .entry)) (samplesIn (now (far .entry)) count) .envelope ⌝ }
 {
     let n = count as usize;
@@ -241,7 +241,7 @@ pub fn stage_at(event: u32, index: u64, left: usize) -> Stage
 // The event is entered: all its samples are left, and counted as used.
 fn enter_near(number: u32, session: Session, count: u32, first: u64) -> Turned
     requires { ⌜ (number < 2 ^ 32 - 1) × (count ≤ 4096) × (session .used .near + count < 2 ^ 64) ⌝ }
-    ensures { λ r. ⌜ r ≡ turned (number + 1) (midway number first count) (withUsed session (usedUp (session .used .far) (session .used .near + count))) Silent (bytes 16 0 0) ⌝ }
+    ensures { λ r. ⌜ r ≡ turned (number + 1) (midway number first count) (withUsed session (usedUp (session .used .far) (session .used .near + count))) Silent (bytesUsed 16 0 0) ⌝ }
 {
     let used = Used {
         far: session.used.far,

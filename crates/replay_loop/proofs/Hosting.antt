@@ -12,7 +12,7 @@ use Rattle.log_lines.specs.declared.Line.{Line}
 use Rattle.recording.specs.declared.Header.{Header}
 use Rattle.replay_stream.specs.Stream.{Hand, nextLine}
 use Rattle.replay_stream.specs.Giving.{gives}
-use Rattle.replay_stream.specs.Hosts.{Rest, rest, unused, Call}
+use Rattle.replay_stream.specs.Hosts.{Rest, rest, restAfter, NextCall}
 use Rattle.replay_stream.specs.declared.Place.{Place}
 use Rattle.replay_stream.proofs.Standing.{Stands, Fits}
 use Rattle.replay_stream.proofs.Turning as turning
@@ -45,7 +45,7 @@ module _ {h : Header} {s s' : Stream} {b b' : Buffers} {e f n room e' f' n' room
         near = nothing-comes _ _ _ _ _ (i .near .moved) (l .near) (fair .near);
       }
 
-  abbrev pub call : Call h (s .place) b restBefore
+  abbrev pub call : NextCall h (s .place) b restBefore
   call =
       record {
         hand = handAt (s .inputs) e f n;
@@ -58,7 +58,7 @@ module _ {h : Header} {s s' : Stream} {b b' : Buffers} {e f n room e' f' n' room
         contract = one .asked;
       }
 
-  used-is : Fits (one .gave .used) (handAt (s .inputs) e f n) → unused (one .gave .used) restBefore ≡ restAt (s' .inputs) e' f' n' l
+  used-is : Fits (one .gave .used) (handAt (s .inputs) e f n) → restAfter (one .gave .used) restBefore ≡ restAt (s' .inputs) e' f' n' l
   used-is fits =
       let i = one .heeded .inputs in
       rest-same (used-front _ _ _ _ _ (l .events) (i .events .moved) (fits .events)) (used-front _ _ _ _ _ (l .far) (i .far .moved) (fits .far)) (used-front _ _ _ _ _ (l .near) (i .near .moved) (fits .near))
@@ -67,7 +67,7 @@ module _ {h : Header} {s s' : Stream} {b b' : Buffers} {e f n room e' f' n' room
     law : turning.At events far near h (s .place) b restBefore (handAt (s .inputs) e f n) (gives (one .gave) b')
     law = subst (turning.At events far near h (s .place) b restBefore (handAt (s .inputs) e f n)) (sym (one .asked)) (turning.next-law events far near h (s .place) b restBefore (handAt (s .inputs) e f n) st (call .fair))
 
-    pub unused-is : unused (one .gave .used) restBefore ≡ restAt (s' .inputs) e' f' n' l
+    pub unused-is : restAfter (one .gave .used) restBefore ≡ restAt (s' .inputs) e' f' n' l
     unused-is = used-is (law .fits)
 
     pub stands-after : turning.StandsAt events far near h (s' .place) (restAt (s' .inputs) e' f' n' l)

@@ -10,12 +10,12 @@ use Rattle.log_text.proofs.Text.{append-nothing}
 use Rattle.recording.specs.Recording.{opened}
 use Rattle.recording.specs.declared.Header.{Header}
 use Rattle.recording.specs.declared.Start.the-variants as start
-use Rattle.replay.specs.Beginning.{beginning, begins}
+use Rattle.replay.specs.Beginning.{beginning, beginningOf}
 use Rattle.replay.specs.Log.{logOf}
 use Rattle.replay.specs.declared.Session.{Session}
 use Rattle.replay.specs.declared.Begun.the-variants as begun
 use Rattle.replay_stream.specs.Stream.{Piece, short, nextLine}
-use Rattle.replay_stream.specs.Hosts.{Rest, rest, unused, Front, Call, Noted, noted, opens, Streamed, Streams}
+use Rattle.replay_stream.specs.Hosts.{Rest, rest, restAfter, Front, NextCall, Noted, noted, opens, Streamed, Streams}
 use Rattle.replay_stream.specs.Hosts as hosts
 use Rattle.replay_stream.specs.declared.Place.{Place}
 use Rattle.replay_stream.specs.declared.Answer.{Answer}
@@ -39,7 +39,7 @@ module _ (events far near : List ℕ) where
   module _ {h : Header} {s s' : Stream} {b b' : Buffers} {e f n room e' f' n' room' : List ℕ} (one : Turn h s b e f n room s' b' e' f' n' room') (l : Rest) (fair : Fairly (s' .inputs) l)
       (st : turning.StandsAt events far near h (s .place) (restBefore one l fair)) where
     -- the same from where the call left it
-    handed : (ls : List Line) → Told h (s' .place) b' (restAt (s' .inputs) e' f' n' l) ls → Told h (one .gave .place) b' (unused (one .gave .used) (restBefore one l fair)) ls
+    handed : (ls : List Line) → Told h (s' .place) b' (restAt (s' .inputs) e' f' n' l) ls → Told h (one .gave .place) b' (restAfter (one .gave .used) (restBefore one l fair)) ls
     handed ls t =
         subst (λ (r : Rest). Told h (one .gave .place) b' r ls) (sym (unused-is one l fair events far near st))
         (subst (λ (p : Place). Told h p b' (restAt (s' .inputs) e' f' n' l) ls) (one .heeded .place) t)
@@ -91,7 +91,7 @@ module _ (events far near : List ℕ) where
 
 -- A loop that has begun as a host begins, and has come to the end of the log, was told the log of the recording: of the bytes at hand at first, those that came, and those that were left unread.
 pub log-told : (events far near : List ℕ) {h : Header} {s u : Stream} {cleared d : Buffers} {e f n room e' f' n' room' : List ℕ} {x : Rest} {y : List ℕ} {ls : List Line} (first : Piece) (lent : Buffers) (session : Session) (l : Rest)
-    → Front events first → short 24 first ≡ false → opened (first .bytes) ≡ start.Opened h → beginning (begun.Ready session) cleared ≡ begins h lent → s .place ≡ opens session → s .over ≡ false
+    → Front events first → short 24 first ≡ false → opened (first .bytes) ≡ start.Opened h → beginning (begun.Ready session) cleared ≡ beginningOf h lent → s .place ≡ opens session → s .over ≡ false
     → Turns h s cleared e f n room x y ls u d e' f' n' room' → Fairly (u .inputs) l → restAt (s .inputs) e f n (behind x l) ≡ rest (drop 24 events) far near → u .over ≡ true → ls ≡ logOf events far near
 log-told events far near {h = h} {s = s} {cleared = cleared} {e = e} {f = f} {n = n} {x = x} {ls = ls} first lent session l front enough header ready place starts turns fair whole ends =
     let q = header-handed events first front enough ∙ header in

@@ -37,12 +37,12 @@ use Rattle.log_check.proofs.Verdicts.{checked-is}
 use Rattle.recording.specs.Recording.{opened}
 use Rattle.recording.specs.declared.Header.{Header}
 use Rattle.recording.specs.declared.Start.the-variants as start
-use Rattle.replay.specs.Beginning.{beginning, begins}
+use Rattle.replay.specs.Beginning.{beginning, beginningOf}
 use Rattle.replay.specs.declared.Session.{Session}
 use Rattle.replay.specs.declared.Begun.the-variants as begun
 use Rattle.replay_stream.specs.Stream.{Piece, short}
 use Rattle.replay_stream.specs.Giving.{piece}
-use Rattle.replay_stream.specs.Hosts.{Rest, rest, unused, Front, opens}
+use Rattle.replay_stream.specs.Hosts.{Rest, rest, restAfter, Front, opens}
 use Rattle.replay_stream.specs.declared.Place.{Place}
 use Rattle.replay_stream.specs.declared.Answer.{Answer}
 use Rattle.replay_stream.specs.declared.Answer.the-variants.{Says, Silent, Wants, Over}
@@ -137,7 +137,7 @@ module _ (events far near : List ℕ) {h : Header} {s s' : Stream} {b b' : Buffe
   Before k log = Checking h (s .place) b (restBefore one l fair) k log v
 
   -- the same from where the call left it
-  handed : (k : ℕ) (log : List ℕ) → After' k log → Checking h (one .gave .place) b' (unused (one .gave .used) (restBefore one l fair)) k log v
+  handed : (k : ℕ) (log : List ℕ) → After' k log → Checking h (one .gave .place) b' (restAfter (one .gave .used) (restBefore one l fair)) k log v
   handed k log t =
       subst (λ (r : Rest). Checking h (one .gave .place) b' r k log v) (sym (unused-is one l fair events far near st))
       (subst (λ (p : Place). Checking h p b' (restAt (s' .inputs) e' f' n' l) k log v) (one .heeded .place) t)
@@ -305,7 +305,7 @@ module _ (events far near : List ℕ) where
 -- A loop that has begun as a host begins, and found something of a log, found what `checked` says of it: of the bytes at hand at first, those that came, and those that were left unread.
 pub verdict-checked : (events far near log : List ℕ) {h : Header} {s u : Stream} {cleared d : Buffers} {e f n room e' f' n' room' : List ℕ} {x : Rest} {y : List ℕ} {ls : List Line} (first : Piece) (lent : Buffers) (session : Session) (l : Rest)
     (z : List ℕ) (v : Apart) (c c'' : Check) (room'' : List ℕ)
-    → Front events first → short 24 first ≡ false → opened (first .bytes) ≡ start.Opened h → beginning (begun.Ready session) cleared ≡ begins h lent → s .place ≡ opens session → s .over ≡ false
+    → Front events first → short 24 first ≡ false → opened (first .bytes) ≡ start.Opened h → beginning (begun.Ready session) cleared ≡ beginningOf h lent → s .place ≡ opens session → s .over ≡ false
     → s .sink ≡ Checks c → c .line ≡ 1 → c .verdict ≡ verdict.Going → Turns h s cleared e f n room x y ls u d e' f' n' room' → (fin : Finished (u .over) (u .sink) room' (Checks c'') room'')
     → Fairly (u .inputs) l → (over (c'' .log) ≡ true → z ≡ []) → restAt (s .inputs) e f n (behind x l) ≡ rest (drop 24 events) far near
     → atHand (c .log) room ++ (y ++ (endBy (u .over) (u .sink) room' c'' room'' fin ++ z)) ≡ log

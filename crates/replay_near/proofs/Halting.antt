@@ -22,17 +22,17 @@ use Rattle.scan_runs.specs.Runs.{Run, passes, ran}
 use Rattle.replay.specs.Events.{Play, withScan, afterScore, scorePlayed, afterTaking, samplePlayed}
 use Rattle.replay.specs.declared.Session.{Session}
 use Rattle.replay.proofs.Passing.{later, passed-within}
-use Rattle.replay_stream.specs.Stream.{Cut, cut, none, nearCut}
+use Rattle.replay_stream.specs.Stream.{Cut, cut, noLines, nearCut}
 use Rattle.replay_stream.specs.declared.Answer.the-variants.{Silent}
 use Rattle.replay_stream.proofs.Running.{run-cut}
 use Rattle.replay_near.specs.Telling.{Told, tells, tellsOf, CutTold, cutTells}
 use Rattle.replay_near.specs.declared.Played.{Played}
 
-score-logs : (e : ℕ) (s : Session) (scan : Scan) (b : Buffers) (a : Scoring) → none (afterScore e s scan b a .lines) ≡ false
+score-logs : (e : ℕ) (s : Session) (scan : Scan) (b : Buffers) (a : Scoring) → noLines (afterScore e s scan b a .lines) ≡ false
 score-logs e s scan b (scoring.Refused number) = refl
 score-logs e s scan b (scoring.Frame f n) = refl
 
-stop-logs : (e : ℕ) (s : Session) (b : Buffers) (a : Taking) → passes a ≡ false → none (afterTaking e s b a .lines) ≡ false
+stop-logs : (e : ℕ) (s : Session) (b : Buffers) (a : Taking) → passes a ≡ false → noLines (afterTaking e s b a .lines) ≡ false
 unfolding scorePlayed
 stop-logs e s b (taking.Refused number) h = refl
 stop-logs e s b taking.Ignored h = absurd (true≢false h)
@@ -71,7 +71,7 @@ pick-cut true p index xs = refl
 pick-cut false p index xs = refl
 
 -- a cut whose first sample logs a line
-cut-here : (e : ℕ) (s : Session) (b : Buffers) (x : Float) (xs : List Float) (index : ℕ) → none (samplePlayed e s b x index .lines) ≡ false
+cut-here : (e : ℕ) (s : Session) (b : Buffers) (x : Float) (xs : List Float) (index : ℕ) → noLines (samplePlayed e s b x index .lines) ≡ false
     → nearCut e s b (x ∷ xs) index
     ≡ cut (samplePlayed e s b x index .lines) (samplePlayed e s b x index .session) (samplePlayed e s b x index .buffers) (nextLongCount index) (pick (samplePlayed e s b x index .ends) [] xs)
 unfolding nearCut
@@ -109,7 +109,7 @@ module _ (e : ℕ) (s s′ : Session) (b : Buffers) (xs : List Float) (index ind
     front : drop count xs ≡ x ∷ drop (suc count) xs
     front = drop-cons xs count d more
 
-    logs : none (p .lines) ≡ false
+    logs : noLines (p .lines) ≡ false
     unfolding samplePlayed
     logs =
         let r = ran (s .scan) (b .levels) xs index in

@@ -6,7 +6,7 @@ use borrow.Fn.Kinds.{Dens, resT, endedOf}
 use Rattle.scan.specs.State.{Buffers}
 use Rattle.scan_score.specs.Observing.{lent}
 use Rattle.replay_stream.specs.Stream.{Hand}
-use Rattle.replay_stream.specs.Hosts.{Rest, Fair, Call}
+use Rattle.replay_stream.specs.Hosts.{Rest, FairHand, NextCall}
 use Rattle.replay_stream.specs.Giving.{handOf, gives}
 use Rattle.replay_next.proofs.next.Kinds as next-kinds
 use Rattle.replay_next.proofs.next.Reads as next-reads
@@ -18,7 +18,7 @@ module _ (κs : Lfts 10) (a : Dens κs next-kinds.ps) where
   abbrev buffers : Buffers
   buffers = lent (now (a .1 .1 .1 .1 .1 .1 .0)) (now (a .1 .1 .1 .1 .1 .1 .1 .0)) (now (a .1 .1 .1 .1 .1 .1 .1 .1 .0)) (now (a .1 .1 .1 .1 .1 .1 .1 .1 .1 .0)) (now (a .1 .1 .1 .1 .1 .1 .1 .1 .1 .1 .0)) (now (a .1 .1 .1 .1 .1 .1 .1 .1 .1 .1 .1 .0)) (now (a .1 .1 .1 .1 .1 .1 .1 .1 .1 .1 .1 .1 .0))
 
-  pub next-called : (v : resT next-kinds.r κs .Denot) (x : AtExit (endedOf 10 next-kinds.ps next-kinds.r) κs) (r : Rest) → Fair r hand → next-reads.Post κs a v x → Call (a .0) (a .1 .0) buffers r
+  pub next-called : (v : resT next-kinds.r κs .Denot) (x : AtExit (endedOf 10 next-kinds.ps next-kinds.r) κs) (r : Rest) → FairHand r hand → next-reads.Post κs a v x → NextCall (a .0) (a .1 .0) buffers r
   next-called v x r f c = record {
     hand = hand;
     fair = f;

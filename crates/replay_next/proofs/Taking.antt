@@ -9,7 +9,7 @@ use lib.ListN.{length, take, drop, length-drop}
 use lib.Seq.{take-length}
 use Rattle.scan.specs.State.{Buffers}
 use Rattle.recording.specs.declared.Header.{Header}
-use Rattle.replay_stream.specs.Stream.{Hand, bytes, beyond, Next, turn, silent, onTop}
+use Rattle.replay_stream.specs.Stream.{Hand, bytesUsed, beyond, Next, turn, silent, onTop}
 use Rattle.replay_stream.specs.declared.Place.{Place}
 use Rattle.replay_stream.specs.declared.Bytes.{Bytes}
 use Rattle.replay_stream.proofs.Silence.{toGo, turn-nearer}
@@ -45,7 +45,7 @@ module _ (h : Header) (ev fr nr : List ℕ) (ended : Ended) (at : Place) (b : Bu
   hand = handOf ev fr nr ended
 
   abbrev both : Bytes
-  both = bytes (u .events + t .used .events) (u .far + t .used .far) (u .near + t .used .near)
+  both = bytesUsed (u .events + t .used .events) (u .far + t .used .far) (u .near + t .used .near)
 
   here : gives t b′ ≡ turn h at b (beyond u hand)
   here =
@@ -71,7 +71,7 @@ module _ (h : Header) (ev fr nr : List ℕ) (ended : Ended) (at : Place) (b : Bu
   module _ (asked : Next) (is : looping.Underway h asked hand at b u) where
     pub again : silent (t .answer) ≡ true → looping.Underway h asked hand (t .place) b′ both
     again z =
-        subst (λ (x : Next). looping.Underway h asked hand (x .place) (x .buffers) (bytes (u .events + x .used .events) (u .far + x .used .far) (u .near + x .used .near))) (sym here)
+        subst (λ (x : Next). looping.Underway h asked hand (x .place) (x .buffers) (bytesUsed (u .events + x .used .events) (u .far + x .used .far) (u .near + x .used .near))) (sym here)
         (looping.loop-again h asked hand at b u is (ap (λ (x : Next). silent (x .answer)) (sym here) ∙ z))
 
     pub ends : silent (t .answer) ≡ false → onTop u (gives t b′) ≡ asked

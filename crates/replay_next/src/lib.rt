@@ -11,7 +11,7 @@ ghost use lib.ListN.{length};
 ghost use Rattle.scan_score.specs.Observing.{lent};
 ghost use Rattle.replay_near.specs.Telling.{Holds};
 ghost use Rattle.replay_stream.specs.Stream;
-ghost use Rattle.replay_stream.specs.Stream.{bytes, nextLine};
+ghost use Rattle.replay_stream.specs.Stream.{bytesUsed, nextLine};
 ghost use Rattle.replay_stream.specs.Giving.{handOf, gives};
 
 // Whether a turn said nothing, so that the next one follows.
@@ -28,7 +28,7 @@ fn silent(answer: Answer) -> bool
 
 fn sum(a: Bytes, b: Bytes) -> Bytes
     requires { ⌜ (a .events + b .events < 2 ^ 64) × (a .far + b .far < 2 ^ 64) × (a .near + b .near < 2 ^ 64) ⌝ }
-    ensures { λ r. ⌜ r ≡ bytes (a .events + b .events) (a .far + b .far) (a .near + b .near) ⌝ }
+    ensures { λ r. ⌜ r ≡ bytesUsed (a .events + b .events) (a .far + b .far) (a .near + b .near) ⌝ }
 {
     Bytes {
         events: a.events + b.events,

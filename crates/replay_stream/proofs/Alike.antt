@@ -22,9 +22,9 @@ use Rattle.recording.specs.declared.Entry.the-variants as entry
 use Rattle.replay.specs.Events.{Play, afterAdmission, stepped}
 use Rattle.replay.specs.Log.{closing}
 use Rattle.replay.specs.declared.Session.{Session}
-use Rattle.replay_stream.specs.Stream.{Stage, Opening, Events, Midway, Closed, Place, Hand, bytes, beyond, short, Input, Entries, NearSide, Answer, Says, Wants, Next, next, waits, told, midway, nearCut, nearTurn, Need, NoSamples, FarSamples, NearSamples, needOf, awaited, awaits, sideOf, handed, seen, entered, entryTurn, turnAt, turn, silent, onTop, turns, nextLine}
-use Rattle.replay_stream.specs.Hosts.{Rest, unused, Front, Fair}
-use Rattle.replay_stream.specs.Notes.{last, whole}
+use Rattle.replay_stream.specs.Stream.{Stage, Opening, Events, Midway, Closed, Place, Hand, bytesUsed, beyond, short, Input, Entries, NearSide, Answer, Says, Wants, Next, next, waits, told, midway, nearCut, nearTurn, Need, NoSamples, FarSamples, NearSamples, needOf, awaited, awaits, sideOf, handed, seen, entered, entryTurn, turnAt, turn, silent, onTop, turns, nextLine}
+use Rattle.replay_stream.specs.Hosts.{Rest, restAfter, Front, FairHand}
+use Rattle.replay_stream.specs.Notes.{last, wholeHand}
 use Rattle.replay_stream.proofs.Fronts.{Behind, entry-handed, samples-handed}
 use Rattle.replay_stream.proofs.Standing.{Stands, fair-past}
 use Rattle.replay_stream.proofs.Entering.{Taken, taken, same-admission}
@@ -33,7 +33,7 @@ use Rattle.replay_stream.proofs.Turning.{StandsAt, turn-law}
 all-front : (left : List ℕ) → Front left (last left)
 all-front left = record { later = []; joins = sym (append-nil left); last = λ e. refl }
 
-pub whole-fair : (r : Rest) → Fair r (whole r)
+pub whole-fair : (r : Rest) → FairHand r (wholeHand r)
 whole-fair r = record { events = all-front (r .events); far = all-front (r .far); near = all-front (r .near) }
 
 -- an answer other than that more is wanted
@@ -51,7 +51,7 @@ never-awaited used total count left = go (leb (used + count) total)
     go true = refl
     go false = refl
 
-none-awaited : (h : Header) (u : Used) (r : Rest) (need : Need) → awaits h u (whole r) need ≡ false
+none-awaited : (h : Header) (u : Used) (r : Rest) (need : Need) → awaits h u (wholeHand r) need ≡ false
 none-awaited h u r NoSamples = refl
 none-awaited h u r (FarSamples count) = never-awaited (u .far) (h .far) count (r .far)
 none-awaited h u r (NearSamples count first) = never-awaited (u .near) (h .near) count (r .near)
@@ -59,62 +59,62 @@ none-awaited h u r (NearSamples count first) = never-awaited (u .near) (h .near)
 module _ (events far near : List ℕ) (h : Header) where
   -- ---- an event
 
-  module _ (n : ℕ) (s : Session) (b : Buffers) (r : Rest) (hand : Hand) (st : Stands events far near n Events (s .used) r) (fair : Fair r hand) where
+  module _ (n : ℕ) (s : Session) (b : Buffers) (r : Rest) (hand : Hand) (st : Stands events far near n Events (s .used) r) (fair : FairHand r hand) where
     near-at : Behind near (4 * s .used .near) (r .near)
     near-at = let e : st .passed ≡ 4 * s .used .near = omega (arith, st .partly) in rw e at (st .nears)
 
-    same-handed : (u : Used) (need : Need) → Taken n (s .used) u hand need → handed hand need ≡ handed (whole r) need
+    same-handed : (u : Used) (need : Need) → Taken n (s .used) u hand need → handed hand need ≡ handed (wholeHand r) need
     same-handed u NoSamples t = refl
     same-handed u (FarSamples count) t = sym (samples-handed (r .far) (hand .far) (fair .far) count (t .far-there))
     same-handed u (NearSamples count first) t = refl
 
     same-play : (k : Event) (a : Admission) → admitted h (seen (s .used) hand) (s .used) k ≡ a
-        → afterAdmission n s b k (handed hand (needOf (entry.Good k))) a ≡ afterAdmission n s b k (handed (whole r) (needOf (entry.Good k))) a
+        → afterAdmission n s b k (handed hand (needOf (entry.Good k))) a ≡ afterAdmission n s b k (handed (wholeHand r) (needOf (entry.Good k))) a
     same-play k admission.Lacking q = refl
     same-play k (admission.Enough u) q = ap (λ (xs : List Float). afterAdmission n s b k xs (admission.Enough u)) (same-handed u (needOf (entry.Good k)) (taken n h (s .used) u hand k q))
 
     abbrev steps : Hand → Entry → Play
     steps g k = stepped h (seen (s .used) g) n s b k (handed g (needOf k))
 
-    same-step : (k : Entry) → awaits h (s .used) hand (needOf k) ≡ false → steps hand k ≡ steps (whole r) k
+    same-step : (k : Entry) → awaits h (s .used) hand (needOf k) ≡ false → steps hand k ≡ steps (wholeHand r) k
     unfolding stepped
     same-step entry.Bad f = refl
     same-step (entry.Good k) f =
         let need = needOf (entry.Good k) in
         let one = same-admission h far near (s .used) r hand (st .fars) near-at fair k f in
-        let two = same-admission h far near (s .used) r (whole r) (st .fars) near-at (whole-fair r) k (none-awaited h (s .used) r need) in
+        let two = same-admission h far near (s .used) r (wholeHand r) (st .fars) near-at (whole-fair r) k (none-awaited h (s .used) r need) in
         same-play k (admitted h (seen (s .used) hand) (s .used) k) refl
-        ∙ ap (afterAdmission n s b k (handed (whole r) need)) (one ∙ sym two)
+        ∙ ap (afterAdmission n s b k (handed (wholeHand r) need)) (one ∙ sym two)
 
-    same-entry : (k : Entry) → Settled (entryTurn h n s b hand k .answer) → entryTurn h n s b hand k ≡ entryTurn h n s b (whole r) k
+    same-entry : (k : Entry) → Settled (entryTurn h n s b hand k .answer) → entryTurn h n s b hand k ≡ entryTurn h n s b (wholeHand r) k
     unfolding entryTurn
     same-entry k =
-        pick-case (λ (t : Next). Settled (t .answer) → t ≡ entryTurn h n s b (whole r) k) (awaits h (s .used) hand (needOf k)) _ _
+        pick-case (λ (t : Next). Settled (t .answer) → t ≡ entryTurn h n s b (wholeHand r) k) (awaits h (s .used) hand (needOf k)) _ _
         (λ f settled. absurd (settled (sideOf (needOf k)) refl))
         (λ f settled. ap (entered n s (needOf k)) (same-step k f) ∙ sym (pick-false _ _ _ (none-awaited h (s .used) r (needOf k))))
 
-    same-events : Settled (turnAt h n Events s b hand .answer) → turnAt h n Events s b hand ≡ turnAt h n Events s b (whole r)
+    same-events : Settled (turnAt h n Events s b hand .answer) → turnAt h n Events s b hand ≡ turnAt h n Events s b (wholeHand r)
     unfolding pick
     same-events = go (ltb n (h .events)) (short 16 (hand .events)) refl
       where
         go : (m w : Bool) → short 16 (hand .events) ≡ w
-            → Settled (pick m (pick w (waits n Events s b Entries) (entryTurn h n s b hand (eventAt (hand .events .bytes) 0))) (next n Closed s b (Says (closing h s)) (bytes 0 0 0)) .answer)
-            → pick m (pick w (waits n Events s b Entries) (entryTurn h n s b hand (eventAt (hand .events .bytes) 0))) (next n Closed s b (Says (closing h s)) (bytes 0 0 0))
-            ≡ pick m (entryTurn h n s b (whole r) (eventAt (r .events) 0)) (next n Closed s b (Says (closing h s)) (bytes 0 0 0))
+            → Settled (pick m (pick w (waits n Events s b Entries) (entryTurn h n s b hand (eventAt (hand .events .bytes) 0))) (next n Closed s b (Says (closing h s)) (bytesUsed 0 0 0)) .answer)
+            → pick m (pick w (waits n Events s b Entries) (entryTurn h n s b hand (eventAt (hand .events .bytes) 0))) (next n Closed s b (Says (closing h s)) (bytesUsed 0 0 0))
+            ≡ pick m (entryTurn h n s b (wholeHand r) (eventAt (r .events) 0)) (next n Closed s b (Says (closing h s)) (bytesUsed 0 0 0))
         go true true e settled = absurd (settled Entries refl)
         go true false e settled =
             same-entry (eventAt (hand .events .bytes) 0) settled
-            ∙ ap (entryTurn h n s b (whole r)) (sym (entry-handed (r .events) (hand .events) (fair .events) e))
+            ∙ ap (entryTurn h n s b (wholeHand r)) (sym (entry-handed (r .events) (hand .events) (fair .events) e))
         go false true e settled = refl
         go false false e settled = refl
 
   -- ---- a near event left midway
 
-  same-midway : (n e index left : ℕ) (s : Session) (b : Buffers) (r : Rest) (hand : Hand) → Stands events far near n (Midway e index left) (s .used) r → Fair r hand
-      → Settled (turnAt h n (Midway e index left) s b hand .answer) → turnAt h n (Midway e index left) s b hand ≡ turnAt h n (Midway e index left) s b (whole r)
+  same-midway : (n e index left : ℕ) (s : Session) (b : Buffers) (r : Rest) (hand : Hand) → Stands events far near n (Midway e index left) (s .used) r → FairHand r hand
+      → Settled (turnAt h n (Midway e index left) s b hand .answer) → turnAt h n (Midway e index left) s b hand ≡ turnAt h n (Midway e index left) s b (wholeHand r)
   unfolding nearTurn
   same-midway n e index left s b r hand st fair =
-      pick-case (λ (t : Next). Settled (t .answer) → t ≡ turnAt h n (Midway e index left) s b (whole r)) (ltb (min (length (hand .near .bytes)) 16384) (4 * left)) _ _
+      pick-case (λ (t : Next). Settled (t .answer) → t ≡ turnAt h n (Midway e index left) s b (wholeHand r)) (ltb (min (length (hand .near .bytes)) 16384) (4 * left)) _ _
       (λ w settled. absurd (settled NearSide refl))
       (λ w settled. ap (λ (xs : List Float). played xs) (sym (samples-handed (r .near) (hand .near) (fair .near) left (omega (arith, ltb-false (min (length (hand .near .bytes)) 16384) (4 * left) w))))
       ∙ sym (pick-false _ _ _ (le-ltb (min (length (r .near)) 16384) (4 * left) (omega (arith, st .there, st .few)))))
@@ -122,41 +122,41 @@ module _ (events far near : List ℕ) (h : Header) where
       played : List Float → Next
       played xs =
           let c = nearCut e s b xs index in
-          next n (midway e (c .index) (length (c .left))) (c .session) (c .buffers) (told (c .lines)) (bytes 0 0 (4 * (left - length (c .left))))
+          next n (midway e (c .index) (length (c .left))) (c .session) (c .buffers) (told (c .lines)) (bytesUsed 0 0 (4 * (left - length (c .left))))
 
   -- ---- any turn, and turn behind turn
 
-  same-stage : (n : ℕ) (stage : Stage) (s : Session) (b : Buffers) (r : Rest) (hand : Hand) → Stands events far near n stage (s .used) r → Fair r hand
-      → Settled (turnAt h n stage s b hand .answer) → turnAt h n stage s b hand ≡ turnAt h n stage s b (whole r)
+  same-stage : (n : ℕ) (stage : Stage) (s : Session) (b : Buffers) (r : Rest) (hand : Hand) → Stands events far near n stage (s .used) r → FairHand r hand
+      → Settled (turnAt h n stage s b hand .answer) → turnAt h n stage s b hand ≡ turnAt h n stage s b (wholeHand r)
   same-stage n Opening s b r hand st fair = λ settled. refl
   same-stage n Events s b r hand st fair = same-events n s b r hand st fair
   same-stage n (Midway e index left) s b r hand st fair = same-midway n e index left s b r hand st fair
   same-stage n Closed s b r hand st fair = λ settled. refl
 
-  pub same-turn : (p : Place) (b : Buffers) (r : Rest) (hand : Hand) → StandsAt events far near h p r → Fair r hand → Settled (turn h p b hand .answer) → turn h p b hand ≡ turn h p b (whole r)
+  pub same-turn : (p : Place) (b : Buffers) (r : Rest) (hand : Hand) → StandsAt events far near h p r → FairHand r hand → Settled (turn h p b hand .answer) → turn h p b hand ≡ turn h p b (wholeHand r)
   unfolding turn
   same-turn p b r hand st fair = same-stage (p .number) (p .stage) (p .session) b r hand st fair
 
-  same-turns : (more : ℕ) (p : Place) (b : Buffers) (r : Rest) (hand : Hand) → StandsAt events far near h p r → Fair r hand → Settled (turns more h p b hand .answer)
-      → turns more h p b hand ≡ turns more h p b (whole r)
+  same-turns : (more : ℕ) (p : Place) (b : Buffers) (r : Rest) (hand : Hand) → StandsAt events far near h p r → FairHand r hand → Settled (turns more h p b hand .answer)
+      → turns more h p b hand ≡ turns more h p b (wholeHand r)
   unfolding turns
   same-turns zero p b r hand st fair = same-turn p b r hand st fair
   same-turns (suc more) p b r hand st fair =
       let t = turn h p b hand in
       let law = turn-law events far near h p b r hand st fair in
       let row : Next → Hand → Next = λ x g. onTop (x .used) (turns more h (x .place) (x .buffers) (beyond (x .used) g)) in
-      pick-case (λ (x : Next). Settled (x .answer) → x ≡ turns (suc more) h p b (whole r)) (silent (t .answer)) _ _
+      pick-case (λ (x : Next). Settled (x .answer) → x ≡ turns (suc more) h p b (wholeHand r)) (silent (t .answer)) _ _
       (λ z settled.
       let one = same-turn p b r hand st fair (silent-settled (t .answer) z) in
-      ap (onTop (t .used)) (same-turns more (t .place) (t .buffers) (unused (t .used) r) (beyond (t .used) hand) (law .stands) (fair-past (t .used) r hand fair (law .fits)) settled)
-      ∙ ap (λ (x : Next). row x (whole r)) one
-      ∙ sym (pick-true (silent (turn h p b (whole r) .answer)) _ _ (ap (λ (x : Next). silent (x .answer)) (sym one) ∙ z)))
+      ap (onTop (t .used)) (same-turns more (t .place) (t .buffers) (restAfter (t .used) r) (beyond (t .used) hand) (law .stands) (fair-past (t .used) r hand fair (law .fits)) settled)
+      ∙ ap (λ (x : Next). row x (wholeHand r)) one
+      ∙ sym (pick-true (silent (turn h p b (wholeHand r) .answer)) _ _ (ap (λ (x : Next). silent (x .answer)) (sym one) ∙ z)))
       (λ z settled.
       let one = same-turn p b r hand st fair settled in
-      one ∙ sym (pick-false (silent (turn h p b (whole r) .answer)) _ _ (ap (λ (x : Next). silent (x .answer)) (sym one) ∙ z)))
+      one ∙ sym (pick-false (silent (turn h p b (wholeHand r) .answer)) _ _ (ap (λ (x : Next). silent (x .answer)) (sym one) ∙ z)))
 
   -- a line, or the end, is answered as it is where all that is left is at hand
-  pub same-answer : (p : Place) (b : Buffers) (r : Rest) (hand : Hand) → StandsAt events far near h p r → Fair r hand → Settled (nextLine h p b hand .answer)
-      → nextLine h p b hand ≡ nextLine h p b (whole r)
+  pub same-answer : (p : Place) (b : Buffers) (r : Rest) (hand : Hand) → StandsAt events far near h p r → FairHand r hand → Settled (nextLine h p b hand .answer)
+      → nextLine h p b hand ≡ nextLine h p b (wholeHand r)
   unfolding nextLine
   same-answer p b r hand st fair = same-turns (2 * (h .events - p .number) + 1) p b r hand st fair

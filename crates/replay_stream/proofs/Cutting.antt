@@ -13,7 +13,7 @@ use Rattle.scan.specs.State.{Buffers}
 use Rattle.log_lines.specs.declared.Line.{Line}
 use Rattle.replay.specs.Events.{Play, goesOn, continuedBy, logGoesOn, samplePlayed, nearPlayed}
 use Rattle.replay.specs.declared.Session.{Session}
-use Rattle.replay_stream.specs.Stream.{Cut, cut, none, nearCut}
+use Rattle.replay_stream.specs.Stream.{Cut, cut, noLines, nearCut}
 use Rattle.replay_stream.proofs.Plain.{One, sample-plain}
 
 -- a play, with the lines before it
@@ -27,9 +27,9 @@ pub record Cuts (e : ℕ) (s : Session) (b : Buffers) (xs : List Float) (index :
   pub passed : ℕ
   pub behind-them : drop passed xs ≡ c .left
   pub count : passed + length (c .left) ≡ length xs
-  pub stops : none (c .lines) ≡ true → c .left ≡ []
+  pub stops : noLines (c .lines) ≡ true → c .left ≡ []
 
-no-lines : (ls : List Line) → none ls ≡ true → ls ≡ []
+no-lines : (ls : List Line) → noLines ls ≡ true → ls ≡ []
 no-lines [] e = refl
 no-lines (l ∷ ls) e = absurd (false≢true e)
 
@@ -55,7 +55,7 @@ module _ (e : ℕ) (s : Session) (b : Buffers) (x : Float) (xs : List Float) (in
     stops = λ z. refl;
   }
 
-  lined : p .ends ≡ false → none (p .lines) ≡ false → Cuts e s b (x ∷ xs) index (cut (p .lines) (p .session) (p .buffers) i xs)
+  lined : p .ends ≡ false → noLines (p .lines) ≡ false → Cuts e s b (x ∷ xs) index (cut (p .lines) (p .session) (p .buffers) i xs)
   unfolding nearPlayed
   lined f l = record {
     plays = ap logGoesOn (pick-false (p .ends) p (continuedBy p q) f);
@@ -89,6 +89,6 @@ cuts e s b (x ∷ xs) index =
     let y = samplePlayed e s b x index in
     pick-case (Cuts e s b (x ∷ xs) index) (y .ends) _ _
     (refused e s b x xs index)
-    (λ f. pick-case (Cuts e s b (x ∷ xs) index) (none (y .lines)) _ _
+    (λ f. pick-case (Cuts e s b (x ∷ xs) index) (noLines (y .lines)) _ _
     (λ z. quiet e s b x xs index _ f (no-lines (y .lines) z) (cuts e (y .session) (y .buffers) xs (nextLongCount index)))
     (lined e s b x xs index f))

@@ -25,8 +25,8 @@ use Rattle.recording.specs.declared.Entry.the-variants as entry
 use Rattle.replay.specs.Events.{Play, withUsed, afterAdmission, badEvent, logGoesOn, nearPlayed, eventPlayed, stepped}
 use Rattle.replay.specs.Log.{Inputs, inputs, allSamples, eventNumber, samplesFor, linesFrom}
 use Rattle.replay.specs.declared.Session.{Session}
-use Rattle.replay_stream.specs.Stream.{Stage, Events, Closed, Piece, Hand, bytes, short, Input, Next, next, waits, told, midway, Need, NoSamples, FarSamples, NearSamples, Few, needOf, awaits, handed, stageAfter, usedFor, seen, entered, entryTurn}
-use Rattle.replay_stream.specs.Hosts.{Rest, unused, Front, Fair}
+use Rattle.replay_stream.specs.Stream.{Stage, Events, Closed, Piece, Hand, bytesUsed, short, Input, Next, next, waits, told, midway, Need, NoSamples, FarSamples, NearSamples, Few, needOf, awaits, handed, stageAfter, usedFor, seen, entered, entryTurn}
+use Rattle.replay_stream.specs.Hosts.{Rest, restAfter, Front, FairHand}
 use Rattle.replay_stream.proofs.Fronts.{Behind, behind-length, behind-more, part-is, there-or-all, hand-length, samples-handed}
 use Rattle.replay_stream.proofs.Plain.{said, event-plain, event-goes}
 use Rattle.replay_stream.proofs.Few.{good-few}
@@ -47,7 +47,7 @@ same-supply used count total whole left p b f true q e = elim (there-or-all left
   | inr all ↦ ap (leb (4 * (used + count))) (sym (behind-length whole (4 * used) left b ∙ ap (λ (l : List ℕ). 4 * used + length l) all))
 ]
 
-pub same-admission : (h : Header) (far near : List ℕ) (u : Used) (r : Rest) (hand : Hand) → Behind far (4 * u .far) (r .far) → Behind near (4 * u .near) (r .near) → Fair r hand
+pub same-admission : (h : Header) (far near : List ℕ) (u : Used) (r : Rest) (hand : Hand) → Behind far (4 * u .far) (r .far) → Behind near (4 * u .near) (r .near) → FairHand r hand
     → (k : Event) → awaits h u hand (needOf (entry.Good k)) ≡ false → admitted h (seen u hand) u k ≡ admitted h (record { far = length far; near = length near }) u k
 unfolding admitted
 same-admission h far near u r hand bf bn fair (event.Far count) e =
@@ -126,7 +126,7 @@ stage-few e (NearSamples count first) f = omega (arith, midway-left e first coun
 -- ---- the event
 
 module _ (events far near : List ℕ) (h : Header) (n : ℕ) (s : Session) (b : Buffers) (r : Rest) (hand : Hand)
-    (st : Stands events far near n Events (s .used) r) (fair : Fair r hand) (more : n < h .events) where
+    (st : Stands events far near n Events (s .used) r) (fair : FairHand r hand) (more : n < h .events) where
   abbrev i : Inputs
   i = inputs events far near
 
@@ -199,7 +199,7 @@ module _ (events far near : List ℕ) (h : Header) (n : ℕ) (s : Session) (b : 
     sixteen (NearSamples count first) = refl
 
     -- the bytes stand behind it
-    stands-after : Stands events far near (n + 1) (stageAfter n need) (here .session .used) (unused (usedFor need) r)
+    stands-after : Stands events far near (n + 1) (stageAfter n need) (here .session .used) (restAfter (usedFor need) r)
     stands-after =
         let entries₁ = behind-more events (24 + 16 * n) (r .events) (st .entries) (usedFor need .events) (omega (arith, sixteen need, hand-length (r .events) (hand .events) (fair .events))) in
         let fars₁ = behind-more far (4 * s .used .far) (r .far) (st .fars) (usedFor need .far) (omega (arith, t .far-there, hand-length (r .far) (hand .far) (fair .far))) in
@@ -223,7 +223,7 @@ module _ (events far near : List ℕ) (h : Header) (n : ℕ) (s : Session) (b : 
         → P (entered n s need here)
     entered-law q =
         let law : P after = record { tells = q; stands = stands-after; fits = fits-after; ends = told-ends (here .lines) _ } in
-        subst P (sym (pick-false (here .ends) (next n Closed s (here .buffers) (told (here .lines)) (bytes 0 0 0)) after (event-goes n (withUsed s u) b k (handed hand need)))) law
+        subst P (sym (pick-false (here .ends) (next n Closed s (here .buffers) (told (here .lines)) (bytesUsed 0 0 0)) after (event-goes n (withUsed s u) b k (handed hand need)))) law
 
     -- any event but a near one: all of it is played, with the samples that the log has
     plain-law : stageAfter n need ≡ Events → samplesFor i (s .used) (entry.Good k) ≡ handed hand need → P (entered n s need here)

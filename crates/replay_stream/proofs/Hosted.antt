@@ -20,7 +20,7 @@ use Rattle.replay.specs.Log.{logOf, newSession, clearBuffers}
 use Rattle.replay.proofs.Ready.{accepts}
 use Rattle.replay_stream.specs.Stream.{Piece, short, Input, Entries, FarSide, NearSide}
 use Rattle.replay_stream.specs.Hosts.{Rest, rest, Front, linesOf, opens, Streams, unopened, streams, plenty, pieceOf}
-use Rattle.replay_stream.specs.Notes.{whole, notedOf}
+use Rattle.replay_stream.specs.Notes.{wholeHand, notedOf}
 use Rattle.replay_stream.proofs.Fronts.{header-handed}
 use Rattle.replay_stream.proofs.Whole.{opened-whole, start-stands, opened-log, streamed-log}
 use Rattle.replay_stream.proofs.Patient.{Patience, patient-ends}
@@ -55,20 +55,20 @@ module _ (host : Patience) (events far near : List ℕ) (first : Piece) (f : Fro
       subst (Streams events far near) (streamed-log events far near (some .0) (some .1)) (some .1)
 
 -- the simplest one: all that is left is at hand
-ended-enough : (r : Rest) (i : Input) → short (plenty i) (pieceOf i (whole r)) ≡ false
+ended-enough : (r : Rest) (i : Input) → short (plenty i) (pieceOf i (wholeHand r)) ≡ false
 unfolding pick
 ended-enough r Entries = refl
 ended-enough r FarSide = refl
 ended-enough r NearSide = refl
 
 pub all-at-once : Patience
-all-at-once = record { give = λ p b r. whole r; fair = λ p b r. whole-fair r; enough = λ p b r. ended-enough r }
+all-at-once = record { give = λ p b r. wholeHand r; fair = λ p b r. whole-fair r; enough = λ p b r. ended-enough r }
 
 pub always-streams : (events far near : List ℕ) → Streams events far near (logOf events far near)
 unfolding pick
 always-streams events far near =
     let r = rest events far near in
-    patient-log all-at-once events far near (whole r .events) (whole-fair r .events) refl
+    patient-log all-at-once events far near (wholeHand r .events) (whole-fair r .events) refl
 
 -- the notes have the log's lines
 pub noted-log : (events far near : List ℕ) (h : Header) → opened events ≡ start.Opened h → linesOf (notedOf h events far near) ≡ logOf events far near

@@ -8,7 +8,7 @@ use native.Mathlib.Omega.{arith}
 use Rattle.answers.specs.Pick.{pick-true, pick-false, pick-case}
 use Rattle.scan.specs.State.{Buffers}
 use Rattle.recording.specs.declared.Header.{Header}
-use Rattle.replay_stream.specs.Stream.{Place, Hand, Bytes, bytes, beyond, Next, turn, silent, onTop, turns, nextLine}
+use Rattle.replay_stream.specs.Stream.{Place, Hand, Bytes, bytesUsed, beyond, Next, turn, silent, onTop, turns, nextLine}
 use Rattle.replay_stream.proofs.Silence.{toGo, turn-nearer, at-most}
 use Rattle.replay_stream.proofs.Turning.{beyond-twice}
 
@@ -60,10 +60,10 @@ module _ (h : Header) where
 
 -- ---- bytes used before
 
-pub add-none : (n : Next) → onTop (bytes 0 0 0) n ≡ n
+pub add-none : (n : Next) → onTop (bytesUsed 0 0 0) n ≡ n
 add-none n = rw (zero-add (n .used .events), zero-add (n .used .far), zero-add (n .used .near))
 
-pub add-twice : (u v : Bytes) (n : Next) → onTop u (onTop v n) ≡ onTop (bytes (u .events + v .events) (u .far + v .far) (u .near + v .near)) n
+pub add-twice : (u v : Bytes) (n : Next) → onTop u (onTop v n) ≡ onTop (bytesUsed (u .events + v .events) (u .far + v .far) (u .near + v .near)) n
 add-twice u v n =
     let e : u .events + (v .events + n .used .events) ≡ u .events + v .events + n .used .events = omega arith in
     let f : u .far + (v .far + n .used .far) ≡ u .far + v .far + n .used .far = omega arith in
@@ -73,14 +73,14 @@ add-twice u v n =
 -- ---- the loop
 
 abbrev sum : Bytes → Bytes → Bytes
-sum u v = bytes (u .events + v .events) (u .far + v .far) (u .near + v .near)
+sum u v = bytesUsed (u .events + v .events) (u .far + v .far) (u .near + v .near)
 
 module _ (h : Header) (asked : Next) (hand : Hand) where
   -- what was asked, from here
   abbrev pub Underway : Place → Buffers → Bytes → Type 0
   Underway p b u = asked ≡ onTop u (nextLine h p b (beyond u hand))
 
-  pub loop-holds : (p : Place) (b : Buffers) → asked ≡ nextLine h p b hand → Underway p b (bytes 0 0 0)
+  pub loop-holds : (p : Place) (b : Buffers) → asked ≡ nextLine h p b hand → Underway p b (bytesUsed 0 0 0)
   loop-holds p b q = q ∙ sym (add-none (nextLine h p b hand))
 
   module _ (p : Place) (b : Buffers) (u : Bytes) (is : Underway p b u) where

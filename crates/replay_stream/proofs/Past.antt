@@ -27,7 +27,7 @@ use Rattle.recording.specs.declared.Entry.{Entry}
 use Rattle.recording.specs.declared.Entry.the-variants as entry
 use Rattle.recording.proofs.Theorems.{header-within, event-within, samples-within}
 use Rattle.replay.specs.Events.{Play, afterAdmission, stepped}
-use Rattle.replay.specs.Log.{Inputs, inputs, allSamples, eventNumber, samplesFor, step, linesFrom, started, logOf, newSession, clearBuffers}
+use Rattle.replay.specs.Log.{Inputs, inputs, allSamples, eventNumber, samplesFor, stepAt, linesFrom, started, logOf, newSession, clearBuffers}
 use Rattle.replay.specs.declared.Session.{Session}
 use Rattle.replay_stream.specs.Hosts.{Streams, Announced}
 use Rattle.replay_stream.proofs.Fronts.{part-is}
@@ -95,7 +95,7 @@ module _ (h : Header) (e f n x y z : List ℕ) (a : Announced h e f n) where
     entry-alike entry.Bad = refl
     entry-alike (entry.Good k) = event-alike k
 
-    step-alike : number < h .events → step more h number s b ≡ step these h number s b
+    step-alike : number < h .events → stepAt more h number s b ≡ stepAt these h number s b
     step-alike m =
         ap (λ (k : Entry). stepped h (more .lengths) number s b k (samplesFor more (s .used) k)) (event-within e x (24 + 16 * number) (omega (arith, a .entries)))
         ∙ entry-alike (eventNumber e number)
@@ -104,7 +104,7 @@ module _ (h : Header) (e f n x y z : List ℕ) (a : Announced h e f n) where
   unfolding linesFrom
   lines-alike zero number s b m = refl
   lines-alike (suc left) number s b m =
-      let p = step these h number s b in
+      let p = stepAt these h number s b in
       ap (λ (q : Play). q .lines ++ pick (q .ends) [] (linesFrom more h left (number + 1) (q .session) (q .buffers))) (step-alike number s b (omega arith))
       ∙ ap (λ (ls : List Line). p .lines ++ pick (p .ends) [] ls) (lines-alike left (number + 1) (p .session) (p .buffers) (omega arith))
 

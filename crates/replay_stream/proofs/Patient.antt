@@ -10,7 +10,7 @@ use Rattle.scan.specs.State.{Buffers}
 use Rattle.log_lines.specs.declared.Line.{Line}
 use Rattle.recording.specs.declared.Header.{Header}
 use Rattle.replay_stream.specs.Stream.{Place, Hand, Bytes, short, Input, Entries, FarSide, NearSide, Answer, Says, Silent, Wants, Over, Next, nextLine}
-use Rattle.replay_stream.specs.Hosts.{Rest, unused, Fair, Call, Noted, noted, Streamed, over, says, wants, plenty, pieceOf, usedOf}
+use Rattle.replay_stream.specs.Hosts.{Rest, restAfter, FairHand, NextCall, Noted, noted, Streamed, over, says, wants, plenty, pieceOf, usedOf}
 use Rattle.replay_stream.proofs.Fronts.{hand-length}
 use Rattle.replay_stream.proofs.Plain.{said}
 use Rattle.replay_stream.proofs.Standing.{Fits}
@@ -26,14 +26,14 @@ Plenty hand = (i : Input) → short (plenty i) (pieceOf i hand) ≡ false
 -- how a host hands the bytes that are left
 pub record Patience : Type 0 where
   pub give : Place → Buffers → Rest → Hand
-  pub fair : (p : Place) (b : Buffers) (r : Rest) → Fair r (give p b r)
+  pub fair : (p : Place) (b : Buffers) (r : Rest) → FairHand r (give p b r)
   pub enough : (p : Place) (b : Buffers) (r : Rest) → Plenty (give p b r)
 
 abbrev size : Rest → ℕ
 size r = length (r .events) + length (r .far) + length (r .near)
 
 -- what was used of an input is gone
-smaller : (i : Input) (u : Bytes) (r : Rest) (hand : Hand) → Fair r hand → Fits u hand → 0 < usedOf i u → size (unused u r) < size r
+smaller : (i : Input) (u : Bytes) (r : Rest) (hand : Hand) → FairHand r hand → Fits u hand → 0 < usedOf i u → size (restAfter u r) < size r
 smaller i u r hand fair fits =
     let e = length-drop (u .events) (r .events) in
     let f = length-drop (u .far) (r .far) in
@@ -47,7 +47,7 @@ smaller i u r hand fair fits =
       | NearSide ↦ λ some. omega (arith, some, fits .near)
     ]
 
-no-larger : (u : Bytes) (r : Rest) → size (unused u r) ≤ size r
+no-larger : (u : Bytes) (r : Rest) → size (restAfter u r) ≤ size r
 no-larger u r = omega (arith, length-drop (u .events) (r .events), length-drop (u .far) (r .far), length-drop (u .near) (r .near))
 
 module _ (events far near : List ℕ) (h : Header) (host : Patience) where
@@ -63,7 +63,7 @@ module _ (events far near : List ℕ) (h : Header) (host : Patience) where
     t = nextLine h p b hand
 
     abbrev left : Rest
-    left = unused (t .used) r
+    left = restAfter (t .used) r
 
     abbrev later : List Line
     later = lines (t .place) (t .buffers) left
@@ -71,7 +71,7 @@ module _ (events far near : List ℕ) (h : Header) (host : Patience) where
     law : At events far near h p b r hand t
     law = next-law events far near h p b r hand st (host .fair p b r)
 
-    abbrev c : Call h p b r
+    abbrev c : NextCall h p b r
     c = record { hand = hand; fair = host .fair p b r; gave = t; contract = refl }
 
     ahead-is : (a : Answer) → t .answer ≡ a → lines p b r ≡ said a ++ later
@@ -96,7 +96,7 @@ module _ (events far near : List ℕ) (h : Header) (host : Patience) where
   finish zero p b r st m = absurd (omega (arith, m))
   finish (suc k) p b r st m =
       let n = nextLine h p b (host .give p b r) in
-      answered p b r st (λ less. finish k (n .place) (n .buffers) (unused (n .used) r) (law p b r st .stands) (omega (arith, m, less))) (n .answer) refl
+      answered p b r st (λ less. finish k (n .place) (n .buffers) (restAfter (n .used) r) (law p b r st .stands) (omega (arith, m, less))) (n .answer) refl
 
   pub patient-ends : (p : Place) (b : Buffers) (r : Rest) → StandsAt events far near h p r → (ts : List Noted) × Streamed h p b r ts
   patient-ends p b r st = finish (suc (length (lines p b r) + size r)) p b r st (omega arith)

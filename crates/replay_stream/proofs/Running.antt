@@ -17,7 +17,7 @@ use Rattle.scan_runs.specs.Runs.{Run, passes, ran}
 use Rattle.replay.specs.Events.{Play, goesOn, afterTaking, withScan, samplePlayed}
 use Rattle.replay.specs.declared.Session.{Session}
 use Rattle.replay.proofs.Passing.{later}
-use Rattle.replay_stream.specs.Stream.{cut, none, nearCut}
+use Rattle.replay_stream.specs.Stream.{cut, noLines, nearCut}
 
 passes-quietly : (e : ℕ) (s : Session) (b : Buffers) (a : Taking) → passes a ≡ true → afterTaking e s b a ≡ goesOn [] s b
 passes-quietly e s b (taking.Refused number) h = absurd (false≢true h)
@@ -38,7 +38,7 @@ module _ (e : ℕ) (s : Session) (b : Buffers) (x : Float) (xs : List Float) (in
   one-passes h =
       ap (λ (p : Play).
       pick (p .ends) (cut (p .lines) (p .session) (p .buffers) (nextLongCount index) [])
-      (pick (none (p .lines)) (nearCut e (p .session) (p .buffers) xs (nextLongCount index)) (cut (p .lines) (p .session) (p .buffers) (nextLongCount index) xs)))
+      (pick (noLines (p .lines)) (nearCut e (p .session) (p .buffers) xs (nextLongCount index)) (cut (p .lines) (p .session) (p .buffers) (nextLongCount index) xs)))
       (passes-quietly e next left (pushedNear (s .scan) (b .levels) x index .took .answer) h)
 
 pub run-cut : (e : ℕ) (xs : List Float) (s : Session) (b : Buffers) (index : ℕ) → index < 2 ^ 64

@@ -13,8 +13,8 @@ use Rattle.recording.specs.declared.Used.{Used}
 use Rattle.replay.specs.Events.{Play, logGoesOn, nearPlayed}
 use Rattle.replay.specs.Log.{Inputs, inputs, linesFrom}
 use Rattle.replay.specs.declared.Session.{Session}
-use Rattle.replay_stream.specs.Stream.{Stage, Opening, Events, Midway, Closed, Hand, Bytes, bytes, beyond, Answer, Says, Silent, Wants, Over, Next, told}
-use Rattle.replay_stream.specs.Hosts.{Rest, unused, Fair}
+use Rattle.replay_stream.specs.Stream.{Stage, Opening, Events, Midway, Closed, Hand, Bytes, bytesUsed, beyond, Answer, Says, Silent, Wants, Over, Next, told}
+use Rattle.replay_stream.specs.Hosts.{Rest, restAfter, FairHand}
 use Rattle.replay_stream.proofs.Fronts.{Behind, front-past}
 use Rattle.replay_stream.proofs.Plain.{said}
 
@@ -56,11 +56,11 @@ pub record Fits (u : Bytes) (hand : Hand) : Type 0 where
   pub far : u .far ≤ length (hand .far .bytes)
   pub near : u .near ≤ length (hand .near .bytes)
 
-pub fits-none : (hand : Hand) → Fits (bytes 0 0 0) hand
+pub fits-none : (hand : Hand) → Fits (bytesUsed 0 0 0) hand
 fits-none hand = record { events = omega arith; far = omega arith; near = omega arith }
 
 -- so that what is at hand behind it is the front of what is left
-pub fair-past : (u : Bytes) (r : Rest) (hand : Hand) → Fair r hand → Fits u hand → Fair (unused u r) (beyond u hand)
+pub fair-past : (u : Bytes) (r : Rest) (hand : Hand) → FairHand r hand → Fits u hand → FairHand (restAfter u r) (beyond u hand)
 fair-past u r hand fair fits = record {
   events = front-past (r .events) (hand .events) (fair .events) (u .events) (fits .events);
   far = front-past (r .far) (hand .far) (fair .far) (u .far) (fits .far);
@@ -82,7 +82,7 @@ told-ends (l ∷ rest) ls = tt
 pub record Lawful (events far near : List ℕ) (h : Header) (n : ℕ) (stage : Stage) (s : Session) (b : Buffers) (r : Rest) (hand : Hand) (t : Next) : Type 0 where
   pub tells :
       ahead (inputs events far near) h (r .near) n stage s b
-      ≡ said (t .answer) ++ ahead (inputs events far near) h (unused (t .used) r .near) (t .place .number) (t .place .stage) (t .place .session) (t .buffers)
-  pub stands : Stands events far near (t .place .number) (t .place .stage) (t .place .session .used) (unused (t .used) r)
+      ≡ said (t .answer) ++ ahead (inputs events far near) h (restAfter (t .used) r .near) (t .place .number) (t .place .stage) (t .place .session) (t .buffers)
+  pub stands : Stands events far near (t .place .number) (t .place .stage) (t .place .session .used) (restAfter (t .used) r)
   pub fits : Fits (t .used) hand
-  pub ends : Ends (t .answer) (ahead (inputs events far near) h (unused (t .used) r .near) (t .place .number) (t .place .stage) (t .place .session) (t .buffers))
+  pub ends : Ends (t .answer) (ahead (inputs events far near) h (restAfter (t .used) r .near) (t .place .number) (t .place .stage) (t .place .session) (t .buffers))

@@ -22,8 +22,8 @@ use Rattle.recording.specs.declared.Used.{Used}
 use Rattle.replay.specs.Events.{Play, logGoesOn, nearPlayed}
 use Rattle.replay.specs.Log.{Inputs, inputs, linesFrom, closing}
 use Rattle.replay.specs.declared.Session.{Session}
-use Rattle.replay_stream.specs.Stream.{Stage, Opening, Events, Midway, Closed, Place, Hand, Bytes, bytes, short, beyond, Answer, Says, Silent, Wants, Over, Next, next, told, Cut, nearCut, midway, nearTurn, turnAt, turn, silent, onTop, turns, nextLine}
-use Rattle.replay_stream.specs.Hosts.{Rest, unused, Fair}
+use Rattle.replay_stream.specs.Stream.{Stage, Opening, Events, Midway, Closed, Place, Hand, Bytes, bytesUsed, short, beyond, Answer, Says, Silent, Wants, Over, Next, next, told, Cut, nearCut, midway, nearTurn, turnAt, turn, silent, onTop, turns, nextLine}
+use Rattle.replay_stream.specs.Hosts.{Rest, restAfter, FairHand}
 use Rattle.replay_stream.proofs.Fronts.{behind-more, entry-here, entry-handed, hand-length, samples-length, samples-behind, samples-handed}
 use Rattle.replay_stream.proofs.Plain.{said}
 use Rattle.replay_stream.proofs.Cutting.{Cuts, cuts}
@@ -49,10 +49,10 @@ silent-says Silent e = refl
 silent-says (Wants input) e = absurd (false≢true e)
 silent-says Over e = absurd (false≢true e)
 
-pub unused-twice : (u v : Bytes) (r : Rest) → unused v (unused u r) ≡ unused (bytes (u .events + v .events) (u .far + v .far) (u .near + v .near)) r
+pub unused-twice : (u v : Bytes) (r : Rest) → restAfter v (restAfter u r) ≡ restAfter (bytesUsed (u .events + v .events) (u .far + v .far) (u .near + v .near)) r
 unused-twice u v r = rw (drop-drop (v .events) (u .events) (r .events), drop-drop (v .far) (u .far) (r .far), drop-drop (v .near) (u .near) (r .near))
 
-pub beyond-twice : (u v : Bytes) (hand : Hand) → beyond v (beyond u hand) ≡ beyond (bytes (u .events + v .events) (u .far + v .far) (u .near + v .near)) hand
+pub beyond-twice : (u v : Bytes) (hand : Hand) → beyond v (beyond u hand) ≡ beyond (bytesUsed (u .events + v .events) (u .far + v .far) (u .near + v .near)) hand
 beyond-twice u v hand = rw (drop-drop (v .events) (u .events) (hand .events .bytes), drop-drop (v .far) (u .far) (hand .far .bytes), drop-drop (v .near) (u .near) (hand .near .bytes))
 
 -- ---- each stage
@@ -61,9 +61,9 @@ module _ (events far near : List ℕ) (h : Header) where
   abbrev i : Inputs
   i = inputs events far near
 
-  module _ (n : ℕ) (s : Session) (b : Buffers) (r : Rest) (hand : Hand) (fair : Fair r hand) where
+  module _ (n : ℕ) (s : Session) (b : Buffers) (r : Rest) (hand : Hand) (fair : FairHand r hand) where
     closing-law : Stands events far near n Events (s .used) r → h .events ≤ n
-        → Lawful events far near h n Events s b r hand (next n Closed s b (Says (closing h s)) (bytes 0 0 0))
+        → Lawful events far near h n Events s b r hand (next n Closed s b (Says (closing h s)) (bytesUsed 0 0 0))
     unfolding linesFrom
     closing-law st m = record {
       tells = let z : h .events - n ≡ zero = omega arith in ap (λ (left : ℕ). linesFrom i h left n s b) z;
@@ -125,7 +125,7 @@ module _ (events far near : List ℕ) (h : Header) where
           ∙ ap (λ (ys : List Float). said (told (c .lines)) ++ followed i h n (logGoesOn (nearPlayed e (c .session) (c .buffers) ys (c .index)))) samples-left
           ∙ ap (λ (ls : List Line). said (told (c .lines)) ++ ls) (sym (midway-ahead i h (drop (4 * gone) (r .near)) n e (c .index) (length (c .left)) (c .session) (c .buffers)))
 
-      midway-stands : Stands events far near n (midway e (c .index) (length (c .left))) (c .session .used) (unused (bytes 0 0 (4 * gone)) r)
+      midway-stands : Stands events far near n (midway e (c .index) (length (c .left))) (c .session .used) (restAfter (bytesUsed 0 0 (4 * gone)) r)
       midway-stands =
           let used : c .session .used ≡ s .used = C .keeps in
           let rest-there : 4 * gone ≤ length (r .near) = omega (arith, all-left, hand-length (r .near) (hand .near) (fair .near)) in
@@ -171,20 +171,20 @@ module _ (events far near : List ℕ) (h : Header) where
   abbrev pub StandsAt : Place → Rest → Type 0
   StandsAt p r = Stands events far near (p .number) (p .stage) (p .session .used) r
 
-  pub turn-law : (p : Place) (b : Buffers) (r : Rest) (hand : Hand) → StandsAt p r → Fair r hand → At p b r hand (turn h p b hand)
+  pub turn-law : (p : Place) (b : Buffers) (r : Rest) (hand : Hand) → StandsAt p r → FairHand r hand → At p b r hand (turn h p b hand)
   unfolding turn
   turn-law p b r hand st fair = stage-law (p .number) (p .session) b r hand fair (p .stage) st
 
   -- ---- turn behind turn
 
-  then : (p : Place) (b : Buffers) (r : Rest) (hand : Hand) (t m : Next) → silent (t .answer) ≡ true → At p b r hand t → At (t .place) (t .buffers) (unused (t .used) r) (beyond (t .used) hand) m
+  then : (p : Place) (b : Buffers) (r : Rest) (hand : Hand) (t m : Next) → silent (t .answer) ≡ true → At p b r hand t → At (t .place) (t .buffers) (restAfter (t .used) r) (beyond (t .used) hand) m
       → At p b r hand (onTop (t .used) m)
   then p b r hand t m q one two =
       let twice = unused-twice (t .used) (m .used) r in
       record {
         tells =
             one .tells
-            ∙ ap (λ (ls : List Line). ls ++ ahead i h (unused (t .used) r .near) (t .place .number) (t .place .stage) (t .place .session) (t .buffers)) (silent-says (t .answer) q)
+            ∙ ap (λ (ls : List Line). ls ++ ahead i h (restAfter (t .used) r .near) (t .place .number) (t .place .stage) (t .place .session) (t .buffers)) (silent-says (t .answer) q)
             ∙ two .tells
             ∙ ap (λ (x : Rest). said (m .answer) ++ ahead i h (x .near) (m .place .number) (m .place .stage) (m .place .session) (m .buffers)) twice;
         stands = subst (StandsAt (m .place)) twice (two .stands);
@@ -196,16 +196,16 @@ module _ (events far near : List ℕ) (h : Header) where
         ends = subst (λ (x : Rest). Ends (m .answer) (ahead i h (x .near) (m .place .number) (m .place .stage) (m .place .session) (m .buffers))) twice (two .ends);
       }
 
-  pub turns-law : (more : ℕ) (p : Place) (b : Buffers) (r : Rest) (hand : Hand) → StandsAt p r → Fair r hand → At p b r hand (turns more h p b hand)
+  pub turns-law : (more : ℕ) (p : Place) (b : Buffers) (r : Rest) (hand : Hand) → StandsAt p r → FairHand r hand → At p b r hand (turns more h p b hand)
   unfolding turns
   turns-law zero p b r hand st fair = turn-law p b r hand st fair
   turns-law (suc more) p b r hand st fair =
       let t = turn h p b hand in
       let one = turn-law p b r hand st fair in
       pick-case (At p b r hand) (silent (t .answer)) _ _
-      (λ q. then p b r hand t (turns more h (t .place) (t .buffers) (beyond (t .used) hand)) q one (turns-law more (t .place) (t .buffers) (unused (t .used) r) (beyond (t .used) hand) (one .stands) (fair-past (t .used) r hand fair (one .fits))))
+      (λ q. then p b r hand t (turns more h (t .place) (t .buffers) (beyond (t .used) hand)) q one (turns-law more (t .place) (t .buffers) (restAfter (t .used) r) (beyond (t .used) hand) (one .stands) (fair-past (t .used) r hand fair (one .fits))))
       (λ q. one)
 
-  pub next-law : (p : Place) (b : Buffers) (r : Rest) (hand : Hand) → StandsAt p r → Fair r hand → At p b r hand (nextLine h p b hand)
+  pub next-law : (p : Place) (b : Buffers) (r : Rest) (hand : Hand) → StandsAt p r → FairHand r hand → At p b r hand (nextLine h p b hand)
   unfolding nextLine
   next-law p b r hand st fair = turns-law (2 * (h .events - p .number) + 1) p b r hand st fair

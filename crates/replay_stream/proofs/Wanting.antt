@@ -18,8 +18,8 @@ use Rattle.recording.specs.declared.Used.{Used}
 use Rattle.recording.specs.declared.Entry.{Entry}
 use Rattle.replay.specs.Events.{stepped}
 use Rattle.replay.specs.declared.Session.{Session}
-use Rattle.replay_stream.specs.Stream.{Stage, Opening, Events, Midway, Closed, Place, Piece, Hand, Bytes, bytes, past, beyond, short, Input, Entries, FarSide, NearSide, Says, Wants, Over, Next, waits, told, nearTurn, nearCut, Need, NoSamples, FarSamples, NearSamples, Few, needOf, awaits, sideOf, handed, seen, entryTurn, turnAt, turn, silent, turns, nextLine}
-use Rattle.replay_stream.specs.Hosts.{Rest, unused, Front, Fair, plenty, pieceOf, usedOf}
+use Rattle.replay_stream.specs.Stream.{Stage, Opening, Events, Midway, Closed, Place, Piece, Hand, Bytes, bytesUsed, past, beyond, short, Input, Entries, FarSide, NearSide, Says, Wants, Over, Next, waits, told, nearTurn, nearCut, Need, NoSamples, FarSamples, NearSamples, Few, needOf, awaits, sideOf, handed, seen, entryTurn, turnAt, turn, silent, turns, nextLine}
+use Rattle.replay_stream.specs.Hosts.{Rest, restAfter, Front, FairHand, plenty, pieceOf, usedOf}
 use Rattle.replay_stream.proofs.Fronts.{all-there}
 use Rattle.replay_stream.proofs.Few.{entry-few}
 use Rattle.replay_stream.proofs.Standing.{Stands, fair-past}
@@ -85,7 +85,7 @@ module _ (events far near : List ℕ) (h : Header) where
       (λ w. waits-truly n Events s b hand (sideOf (needOf k)) (awaits-short h (s .used) hand (needOf k) f w))
       (λ w. pick-case (Truly n Events s b hand) (p .ends) _ _ (λ e i q. absurd (told-wants (p .lines) i q)) (λ e i q. absurd (told-wants (p .lines) i q)))
 
-  stage-truly : (n : ℕ) (stage : Stage) (s : Session) (b : Buffers) (r : Rest) (hand : Hand) → Stands events far near n stage (s .used) r → Fair r hand → Truly n stage s b hand (turnAt h n stage s b hand)
+  stage-truly : (n : ℕ) (stage : Stage) (s : Session) (b : Buffers) (r : Rest) (hand : Hand) → Stands events far near n stage (s .used) r → FairHand r hand → Truly n stage s b hand (turnAt h n stage s b hand)
   unfolding nearTurn
   stage-truly n Opening s b r hand st fair = λ i q. absurd (says-wants _ i q)
   stage-truly n Events s b r hand st fair =
@@ -98,11 +98,11 @@ module _ (events far near : List ℕ) (h : Header) where
       (λ w i q. absurd (told-wants (nearCut e s b (samplesIn (hand .near .bytes) left) index .lines) i q))
   stage-truly n Closed s b r hand st fair = λ i q. absurd (over-wants i q)
 
-  pub turn-truly : (p : Place) (b : Buffers) (r : Rest) (hand : Hand) → StandsAt events far near h p r → Fair r hand → Truly (p .number) (p .stage) (p .session) b hand (turn h p b hand)
+  pub turn-truly : (p : Place) (b : Buffers) (r : Rest) (hand : Hand) → StandsAt events far near h p r → FairHand r hand → Truly (p .number) (p .stage) (p .session) b hand (turn h p b hand)
   unfolding turn
   turn-truly p b r hand st fair = stage-truly (p .number) (p .stage) (p .session) b r hand st fair
 
-  turns-truly : (more : ℕ) (p : Place) (b : Buffers) (r : Rest) (hand : Hand) → StandsAt events far near h p r → Fair r hand → (i : Input) → turns more h p b hand .answer ≡ Wants i
+  turns-truly : (more : ℕ) (p : Place) (b : Buffers) (r : Rest) (hand : Hand) → StandsAt events far near h p r → FairHand r hand → (i : Input) → turns more h p b hand .answer ≡ Wants i
       → Lacks i (beyond (turns more h p b hand .used) hand)
   unfolding turns
   turns-truly zero p b r hand st fair i = λ q.
@@ -114,10 +114,10 @@ module _ (events far near : List ℕ) (h : Header) where
       let m = turns more h (t .place) (t .buffers) (beyond (t .used) hand) in
       pick-case (λ (x : Next). x .answer ≡ Wants i → Lacks i (beyond (x .used) hand)) (silent (t .answer)) _ _
       (λ z q. subst (Lacks i) (beyond-twice (t .used) (m .used) hand)
-      (turns-truly more (t .place) (t .buffers) (unused (t .used) r) (beyond (t .used) hand) (law .stands) (fair-past (t .used) r hand fair (law .fits)) i q))
+      (turns-truly more (t .place) (t .buffers) (restAfter (t .used) r) (beyond (t .used) hand) (law .stands) (fair-past (t .used) r hand fair (law .fits)) i q))
       (λ z q. let w = turn-truly p b r hand st fair i q in subst (λ (x : Next). Lacks i (beyond (x .used) hand)) (sym (w .1)) (w .0))
 
-  module _ (p : Place) (b : Buffers) (r : Rest) (hand : Hand) (st : StandsAt events far near h p r) (fair : Fair r hand) (i : Input) where
+  module _ (p : Place) (b : Buffers) (r : Rest) (hand : Hand) (st : StandsAt events far near h p r) (fair : FairHand r hand) (i : Input) where
     -- a turn wants nothing of an input of which there is plenty at hand
     pub turn-has-plenty : short (plenty i) (pieceOf i hand) ≡ false → turn h p b hand .answer ≡ Wants i → ⊥
     turn-has-plenty e q = false≢true (sym e ∙ turn-truly p b r hand st fair i q .0)

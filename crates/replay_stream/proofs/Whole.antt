@@ -17,12 +17,12 @@ use Rattle.recording.specs.Recording.{opened, headerAt}
 use Rattle.recording.specs.declared.Header.{Header}
 use Rattle.recording.specs.declared.Start.the-variants as start
 use Rattle.replay.specs.Log.{inputs, linesFrom, started, logOf, newSession, clearBuffers}
-use Rattle.replay.specs.Beginning.{beginning, begins}
+use Rattle.replay.specs.Beginning.{beginning, beginningOf}
 use Rattle.replay.specs.declared.Session.{Session}
 use Rattle.replay.specs.declared.Begun.the-variants as begun
 use Rattle.replay.proofs.Ready.{ready-is}
 use Rattle.replay_stream.specs.Stream.{Opening, Place, Answer, Says, Wants, Over}
-use Rattle.replay_stream.specs.Hosts.{Rest, rest, unused, Call, Noted, linesOf, Streamed, over, says, wants, opens, Streams, unopened, streams}
+use Rattle.replay_stream.specs.Hosts.{Rest, rest, restAfter, NextCall, Noted, linesOf, Streamed, over, says, wants, opens, Streams, unopened, streams}
 use Rattle.replay_stream.proofs.Fronts.{header-handed}
 use Rattle.replay_stream.proofs.Plain.{said}
 use Rattle.replay_stream.proofs.Standing.{ahead, Stands, Ends}
@@ -35,23 +35,23 @@ module _ (events far near : List ℕ) (h : Header) where
   abbrev pub to-come : Place → Buffers → Rest → List Line
   to-come p b r = ahead (inputs events far near) h (r .near) (p .number) (p .stage) (p .session) b
 
-  call-law : (p : Place) (b : Buffers) (r : Rest) (c : Call h p b r) → StandsAt events far near h p r → At events far near h p b r (c .hand) (c .gave)
+  call-law : (p : Place) (b : Buffers) (r : Rest) (c : NextCall h p b r) → StandsAt events far near h p r → At events far near h p b r (c .hand) (c .gave)
   call-law p b r c st = subst (At events far near h p b r (c .hand)) (sym (c .contract)) (next-law events far near h p b r (c .hand) st (c .fair))
 
   -- a call that answered so: this line, or none, and then what is ahead behind it
-  answered : (p : Place) (b : Buffers) (r : Rest) (c : Call h p b r) (a : Answer) → StandsAt events far near h p r → c .gave .answer ≡ a
-      → said a ++ to-come (c .gave .place) (c .gave .buffers) (unused (c .gave .used) r) ≡ to-come p b r
-  answered p b r c a st q = ap (λ (x : Answer). said x ++ to-come (c .gave .place) (c .gave .buffers) (unused (c .gave .used) r)) (sym q) ∙ sym (call-law p b r c st .tells)
+  answered : (p : Place) (b : Buffers) (r : Rest) (c : NextCall h p b r) (a : Answer) → StandsAt events far near h p r → c .gave .answer ≡ a
+      → said a ++ to-come (c .gave .place) (c .gave .buffers) (restAfter (c .gave .used) r) ≡ to-come p b r
+  answered p b r c a st q = ap (λ (x : Answer). said x ++ to-come (c .gave .place) (c .gave .buffers) (restAfter (c .gave .used) r)) (sym q) ∙ sym (call-law p b r c st .tells)
 
   pub streamed-lines : (p : Place) (b : Buffers) (r : Rest) (ts : List Noted) → Streamed h p b r ts → StandsAt events far near h p r → linesOf ts ≡ to-come p b r
   streamed-lines p b r ts (over p₁ b₁ r₁ c q) st =
-      sym (subst (λ (x : Answer). Ends x (to-come (c .gave .place) (c .gave .buffers) (unused (c .gave .used) r₁))) q (call-law p₁ b₁ r₁ c st .ends))
+      sym (subst (λ (x : Answer). Ends x (to-come (c .gave .place) (c .gave .buffers) (restAfter (c .gave .used) r₁))) q (call-law p₁ b₁ r₁ c st .ends))
       ∙ answered p₁ b₁ r₁ c Over st q
   streamed-lines p b r ts (says p₁ b₁ r₁ l ts₁ c q later) st =
-      ap (λ (x : List Line). l ∷ x) (streamed-lines (c .gave .place) (c .gave .buffers) (unused (c .gave .used) r₁) ts₁ later (call-law p₁ b₁ r₁ c st .stands))
+      ap (λ (x : List Line). l ∷ x) (streamed-lines (c .gave .place) (c .gave .buffers) (restAfter (c .gave .used) r₁) ts₁ later (call-law p₁ b₁ r₁ c st .stands))
       ∙ answered p₁ b₁ r₁ c (Says l) st q
   streamed-lines p b r ts (wants p₁ b₁ r₁ i ts₁ c q later) st =
-      streamed-lines (c .gave .place) (c .gave .buffers) (unused (c .gave .used) r₁) ts₁ later (call-law p₁ b₁ r₁ c st .stands)
+      streamed-lines (c .gave .place) (c .gave .buffers) (restAfter (c .gave .used) r₁) ts₁ later (call-law p₁ b₁ r₁ c st .stands)
       ∙ answered p₁ b₁ r₁ c (Wants i) st q
 
 -- ---- the start
@@ -80,7 +80,7 @@ start-stands events far near h m = record {
   few = omega arith;
 }
 
-pub ready-stands : (events far near : List ℕ) (h : Header) (lent cleared : Buffers) (s : Session) → opened events ≡ start.Opened h → beginning (begun.Ready s) cleared ≡ begins h lent
+pub ready-stands : (events far near : List ℕ) (h : Header) (lent cleared : Buffers) (s : Session) → opened events ≡ start.Opened h → beginning (begun.Ready s) cleared ≡ beginningOf h lent
     → StandsAt events far near h (opens s) (rest (drop 24 events) far near)
 ready-stands events far near h lent cleared s q ready = rw (ready-is h lent cleared s ready .0) (start-stands events far near h (opened-whole events h q))
 
@@ -88,7 +88,7 @@ ready-stands events far near h lent cleared s q ready = rw (ready-is h lent clea
 
 -- what is streamed behind a good header is the log
 pub opened-log : (events far near : List ℕ) (h : Header) (lent cleared : Buffers) (s : Session) (ts : List Noted) → opened events ≡ start.Opened h
-    → beginning (begun.Ready s) cleared ≡ begins h lent → Streamed h (opens s) cleared (rest (drop 24 events) far near) ts → linesOf ts ≡ logOf events far near
+    → beginning (begun.Ready s) cleared ≡ beginningOf h lent → Streamed h (opens s) cleared (rest (drop 24 events) far near) ts → linesOf ts ≡ logOf events far near
 unfolding logOf
 opened-log events far near h lent cleared s ts q ready x =
     let i = inputs events far near in

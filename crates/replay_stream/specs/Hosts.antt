@@ -12,7 +12,7 @@ use Rattle.log_lines.specs.declared.Line.the-variants as line
 use Rattle.recording.specs.Recording.{opened}
 use Rattle.recording.specs.declared.Header.{Header}
 use Rattle.recording.specs.declared.Start.the-variants as start
-use Rattle.replay.specs.Beginning.{beginning, begins}
+use Rattle.replay.specs.Beginning.{beginning, beginningOf}
 use Rattle.replay.specs.declared.Session.{Session}
 use Rattle.replay.specs.declared.Begun.the-variants as begun
 use Rattle.replay_stream.specs.Stream.{Opening, Place, Piece, Hand, Bytes, short, Input, Entries, FarSide, NearSide, Says, Wants, Over, Next, nextLine}
@@ -26,8 +26,8 @@ pub record Rest : Type 0 where
 abbrev pub rest : List ℕ → List ℕ → List ℕ → Rest
 rest e f n = record { events = e; far = f; near = n }
 
-abbrev pub unused : Bytes → Rest → Rest
-unused u r = rest (drop (u .events) (r .events)) (drop (u .far) (r .far)) (drop (u .near) (r .near))
+abbrev pub restAfter : Bytes → Rest → Rest
+restAfter u r = rest (drop (u .events) (r .events)) (drop (u .far) (r .far)) (drop (u .near) (r .near))
 
 -- a piece is the front of what is left, and all of it where it is said to be the last
 pub record Front (left : List ℕ) (p : Piece) : Type 0 where
@@ -36,15 +36,15 @@ pub record Front (left : List ℕ) (p : Piece) : Type 0 where
   pub last : p .ended ≡ true → later ≡ []
 
 -- a host is fair in what it hands
-pub record Fair (r : Rest) (hand : Hand) : Type 0 where
+pub record FairHand (r : Rest) (hand : Hand) : Type 0 where
   pub events : Front (r .events) (hand .events)
   pub far : Front (r .far) (hand .far)
   pub near : Front (r .near) (hand .near)
 
 -- a call: what was at hand, and what it gave
-pub record Call (h : Header) (p : Place) (b : Buffers) (r : Rest) : Type 0 where
+pub record NextCall (h : Header) (p : Place) (b : Buffers) (r : Rest) : Type 0 where
   pub hand : Hand
-  pub fair : Fair r hand
+  pub fair : FairHand r hand
   pub gave : Next
   pub contract : gave ≡ nextLine h p b hand
 
@@ -62,11 +62,11 @@ linesOf (t ∷ ts) = t .line ∷ linesOf ts
 
 -- the calls from a place on, and the lines that they gave. Where more is wanted the host calls again, with another hand. (`nextLine` never answers Silent: `never-silent`.)
 pub data Streamed (h : Header) : Place → Buffers → Rest → List Noted → Type 0 where
-  over : (p : Place) (b : Buffers) (r : Rest) (c : Call h p b r) → c .gave .answer ≡ Over → Streamed h p b r []
-  says : (p : Place) (b : Buffers) (r : Rest) (l : Line) (ts : List Noted) (c : Call h p b r) → c .gave .answer ≡ Says l
-      → Streamed h (c .gave .place) (c .gave .buffers) (unused (c .gave .used) r) ts → Streamed h p b r (noted l (c .gave .place .session) ∷ ts)
-  wants : (p : Place) (b : Buffers) (r : Rest) (i : Input) (ts : List Noted) (c : Call h p b r) → c .gave .answer ≡ Wants i
-      → Streamed h (c .gave .place) (c .gave .buffers) (unused (c .gave .used) r) ts → Streamed h p b r ts
+  over : (p : Place) (b : Buffers) (r : Rest) (c : NextCall h p b r) → c .gave .answer ≡ Over → Streamed h p b r []
+  says : (p : Place) (b : Buffers) (r : Rest) (l : Line) (ts : List Noted) (c : NextCall h p b r) → c .gave .answer ≡ Says l
+      → Streamed h (c .gave .place) (c .gave .buffers) (restAfter (c .gave .used) r) ts → Streamed h p b r (noted l (c .gave .place .session) ∷ ts)
+  wants : (p : Place) (b : Buffers) (r : Rest) (i : Input) (ts : List Noted) (c : NextCall h p b r) → c .gave .answer ≡ Wants i
+      → Streamed h (c .gave .place) (c .gave .buffers) (restAfter (c .gave .used) r) ts → Streamed h p b r ts
 
 abbrev pub opens : Session → Place
 opens s = record { number = 0; stage = Opening; session = s }
@@ -75,7 +75,7 @@ opens s = record { number = 0; stage = Opening; session = s }
 pub data Streams (events far near : List ℕ) : List Line → Type 0 where
   unopened : (first : Piece) → Front events first → short 24 first ≡ false → opened (first .bytes) ≡ start.BadHeader → Streams events far near (line.BadHeader ∷ [])
   streams : (first : Piece) (h : Header) (lent cleared : Buffers) (s : Session) (ts : List Noted) → Front events first → short 24 first ≡ false
-      → opened (first .bytes) ≡ start.Opened h → beginning (begun.Ready s) cleared ≡ begins h lent
+      → opened (first .bytes) ≡ start.Opened h → beginning (begun.Ready s) cleared ≡ beginningOf h lent
       → Streamed h (opens s) cleared (rest (drop 24 events) far near) ts → Streams events far near (linesOf ts)
 
 -- ---- how much a host needs at hand

@@ -10,13 +10,13 @@ use Rattle.recording.specs.declared.Header.{Header}
 use Rattle.replay.specs.Log.{logOf, newSession, clearBuffers}
 use Rattle.replay.specs.declared.Session.{Session}
 use Rattle.replay_stream.specs.Stream.{Place, Piece, Hand, Answer, Says, Silent, Wants, Over, nextLine}
-use Rattle.replay_stream.specs.Hosts.{Rest, rest, unused, Noted, noted, opens}
+use Rattle.replay_stream.specs.Hosts.{Rest, rest, restAfter, Noted, noted, opens}
 
 abbrev pub last : List ℕ → Piece
 last bytes = record { bytes = bytes; ended = true }
 
-abbrev pub whole : Rest → Hand
-whole r = record { events = last (r .events); far = last (r .far); near = last (r .near) }
+abbrev pub wholeHand : Rest → Hand
+wholeHand r = record { events = last (r .events); far = last (r .far); near = last (r .near) }
 
 abbrev pub noteOf : Answer → Session → List Noted → List Noted
 noteOf (Says l) s ts = noted l s ∷ ts
@@ -28,8 +28,8 @@ noteOf Over s ts = []
 unfoldable pub notes : ℕ → Header → Place → Buffers → Rest → List Noted
 notes zero h p b r = []
 notes (suc more) h p b r =
-    let t = nextLine h p b (whole r) in
-    noteOf (t .answer) (t .place .session) (notes more h (t .place) (t .buffers) (unused (t .used) r))
+    let t = nextLine h p b (wholeHand r) in
+    noteOf (t .answer) (t .place .session) (notes more h (t .place) (t .buffers) (restAfter (t .used) r))
 
 -- a call for each line of the log
 unfoldable pub notedOf : Header → List ℕ → List ℕ → List ℕ → List Noted

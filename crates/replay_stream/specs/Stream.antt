@@ -44,8 +44,8 @@ pub record Hand : Type 0 where
   pub far : Piece
   pub near : Piece
 
-abbrev pub bytes : ℕ → ℕ → ℕ → Bytes
-bytes e f n = record { events = e; far = f; near = n }
+abbrev pub bytesUsed : ℕ → ℕ → ℕ → Bytes
+bytesUsed e f n = record { events = e; far = f; near = n }
 
 abbrev pub past : ℕ → Piece → Piece
 past n p = record { bytes = drop n (p .bytes); ended = p .ended }
@@ -70,7 +70,7 @@ next number stage s b answer used = record { place = record { number = number; s
 
 -- more of an input is wanted, and nothing was done
 abbrev pub waits : ℕ → Stage → Session → Buffers → Input → Next
-waits number stage s b input = next number stage s b (Wants input) (bytes 0 0 0)
+waits number stage s b input = next number stage s b (Wants input) (bytesUsed 0 0 0)
 
 -- a turn has at most one line
 abbrev pub told : List Line → Answer
@@ -89,9 +89,9 @@ pub record Cut : Type 0 where
 abbrev pub cut : List Line → Session → Buffers → ℕ → List Float → Cut
 cut ls s b index left = record { lines = ls; session = s; buffers = b; index = index; left = left }
 
-abbrev pub none : List Line → Bool
-none [] = true
-none (l ∷ ls) = false
+abbrev pub noLines : List Line → Bool
+noLines [] = true
+noLines (l ∷ ls) = false
 
 -- a refusal drops the rest of the event
 unfoldable pub nearCut : ℕ → Session → Buffers → List Float → ℕ → Cut
@@ -99,7 +99,7 @@ nearCut e s b [] index = cut [] s b index []
 nearCut e s b (x ∷ xs) index =
     let p = samplePlayed e s b x index in
     pick (p .ends) (cut (p .lines) (p .session) (p .buffers) (nextLongCount index) [])
-    (pick (none (p .lines)) (nearCut e (p .session) (p .buffers) xs (nextLongCount index))
+    (pick (noLines (p .lines)) (nearCut e (p .session) (p .buffers) xs (nextLongCount index))
     (cut (p .lines) (p .session) (p .buffers) (nextLongCount index) xs))
 
 -- the stage while so many samples are left
@@ -110,7 +110,7 @@ midway e index (suc n) = Midway e index (suc n)
 unfoldable pub nearTurn : ℕ → ℕ → ℕ → ℕ → Session → Buffers → Hand → Next
 nearTurn number e index left s b hand =
     let c = nearCut e s b (samplesIn (hand .near .bytes) left) index in
-    next number (midway e (c .index) (length (c .left))) (c .session) (c .buffers) (told (c .lines)) (bytes 0 0 (4 * (left - length (c .left))))
+    next number (midway e (c .index) (length (c .left))) (c .session) (c .buffers) (told (c .lines)) (bytesUsed 0 0 (4 * (left - length (c .left))))
 
 -- ---- an event
 
@@ -163,9 +163,9 @@ stageAfter e (FarSamples count) = Events
 stageAfter e (NearSamples count first) = midway e first count
 
 abbrev pub usedFor : Need → Bytes
-usedFor NoSamples = bytes 16 0 0
-usedFor (FarSamples count) = bytes 16 (4 * count) 0
-usedFor (NearSamples count first) = bytes 16 0 0
+usedFor NoSamples = bytesUsed 16 0 0
+usedFor (FarSamples count) = bytesUsed 16 (4 * count) 0
+usedFor (NearSamples count first) = bytesUsed 16 0 0
 
 -- how many bytes of the sample inputs have been seen, if all samples so far were used
 abbrev pub seen : Used → Hand → Lengths
@@ -174,7 +174,7 @@ seen u hand = record { far = 4 * u .far + length (hand .far .bytes); near = 4 * 
 abbrev pub entered : ℕ → Session → Need → Play → Next
 entered e s need p =
     pick (p .ends)
-    (next e Closed s (p .buffers) (told (p .lines)) (bytes 0 0 0))
+    (next e Closed s (p .buffers) (told (p .lines)) (bytesUsed 0 0 0))
     (next (e + 1) (stageAfter e need) (p .session) (p .buffers) (told (p .lines)) (usedFor need))
 
 unfoldable pub entryTurn : Header → ℕ → Session → Buffers → Hand → Entry → Next
@@ -187,16 +187,16 @@ entryTurn h e s b hand k =
 
 -- A near event has no more than 4,096 samples. A place with more of them left, which no stream reaches, waits.
 abbrev pub turnAt : Header → ℕ → Stage → Session → Buffers → Hand → Next
-turnAt h number Opening s b hand = next number Events s b (Says (line.Replay (h .rate) (h .ceiling))) (bytes 0 0 0)
+turnAt h number Opening s b hand = next number Events s b (Says (line.Replay (h .rate) (h .ceiling))) (bytesUsed 0 0 0)
 turnAt h number Events s b hand =
     pick (ltb number (h .events))
     (pick (short 16 (hand .events)) (waits number Events s b Entries) (entryTurn h number s b hand (eventAt (hand .events .bytes) 0)))
-    (next number Closed s b (Says (closing h s)) (bytes 0 0 0))
+    (next number Closed s b (Says (closing h s)) (bytesUsed 0 0 0))
 turnAt h number (Midway e index left) s b hand =
     pick (ltb (min (length (hand .near .bytes)) 16384) (4 * left))
     (waits number (Midway e index left) s b NearSide)
     (nearTurn number e index left s b hand)
-turnAt h number Closed s b hand = next number Closed s b Over (bytes 0 0 0)
+turnAt h number Closed s b hand = next number Closed s b Over (bytesUsed 0 0 0)
 
 unfoldable pub turn : Header → Place → Buffers → Hand → Next
 turn h p b hand = turnAt h (p .number) (p .stage) (p .session) b hand
@@ -216,7 +216,7 @@ onTop u n =
       place = n .place;
       buffers = n .buffers;
       answer = n .answer;
-      used = bytes (u .events + n .used .events) (u .far + n .used .far) (u .near + n .used .near);
+      used = bytesUsed (u .events + n .used .events) (u .far + n .used .far) (u .near + n .used .near);
     }
 
 -- at most so many turns more than one, while they say nothing

@@ -18,12 +18,12 @@ ghost use lib.ListN.{length};
 ghost use Rattle.scan_score.specs.Observing.{lent};
 ghost use Rattle.replay_near.specs.Telling.{Holds};
 ghost use Rattle.replay_stream.specs.Stream;
-ghost use Rattle.replay_stream.specs.Stream.{bytes};
+ghost use Rattle.replay_stream.specs.Stream.{bytesUsed};
 ghost use Rattle.replay_stream.specs.Giving.{handOf, turned, gives};
 
 // No byte is used.
 fn stands(number: u32, stage: Stage, session: Session, answer: Answer) -> Turned
-    ensures { λ r. ⌜ r ≡ turned number stage session answer (bytes 0 0 0) ⌝ }
+    ensures { λ r. ⌜ r ≡ turned number stage session answer (bytesUsed 0 0 0) ⌝ }
 {
     Turned {
         place: Place {

@@ -8,13 +8,13 @@ ghost use mathlib.Core.Path.{_≡_};
 ghost use Prim.Native.Nat.{_≤_, _-_, _*_};
 ghost use Rattle.scan_score.specs.Observing.{lent};
 ghost use Rattle.replay_near.specs.Telling.{Room};
-ghost use Rattle.replay_stream.specs.Stream.{bytes, nearTurn, midway};
+ghost use Rattle.replay_stream.specs.Stream.{bytesUsed, nearTurn, midway};
 ghost use Rattle.replay_stream.specs.Giving.{turned, gives};
 ghost use Rattle.replay_turn.specs.NearHand.{nearHand};
 
 fn after_near(number: u32, event: u32, left: u32, cut: NearCut) -> Turned
     requires { ⌜ (cut .left ≤ left) × (left ≤ 4096) ⌝ }
-    ensures { λ r. ⌜ r ≡ turned number (midway event (cut .index) (cut .left)) (cut .session) (cut .answer) (bytes 0 0 (4 * (left - cut .left))) ⌝ }
+    ensures { λ r. ⌜ r ≡ turned number (midway event (cut .index) (cut .left)) (cut .session) (cut .answer) (bytesUsed 0 0 (4 * (left - cut .left))) ⌝ }
 {
     let session = cut.session;
     let answer = cut.answer;
