@@ -11,7 +11,7 @@ said include/trimolaveg.h "#define TMV_VERSION_MAJOR $major#define TMV_VERSION_M
 said crates/version_face/src/lib.rt "MAJOR: u32 = $major;const MINOR: u32 = $minor;const PATCH: u32 = $patch;"
 said crates/version_face/specs/Version.antt "thisVersion = versionNumber $major $minor $patch"
 said bindings/rust/Cargo.toml "version = \"$version\""
-for program in replay parts check show draw; do
+for program in replay parts check convert record show draw; do
   [ "$("./$program" --version)" = "trimolaveg $version" ] || { echo "version: ./$program --version says something else than $version" >&2; exit 1; }
 done
 echo "version: $version everywhere"

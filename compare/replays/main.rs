@@ -34,6 +34,7 @@ mod rust;
 mod table;
 
 use inputs::Inputs;
+use replay::forms::{as_shorts, convert};
 use replay::recordings::long::{Long, Plan, What};
 use replay::Recording;
 use table::{Row, Time};
@@ -61,6 +62,8 @@ fn main() {
     table::reading(&replays);
     let empty: Vec<Row> = empty().into_iter().filter(asked).map(|(what, plan)| measured(what, plan, 100)).collect();
     table::work("Buffers made and cleared: a replay of no event", &empty);
+    let kinds: Vec<Row> = kinds(minutes).into_iter().filter(asked).map(|(what, plan)| both_kinds(what, plan)).collect();
+    table::kinds(&kinds);
     std::fs::remove_dir_all(folder()).expect("the recordings can be removed");
     let above: Vec<&Row> = replays.iter().filter(|row| row.ratio() > LIMIT).collect();
     for row in &above {
@@ -122,6 +125,11 @@ fn empty() -> Vec<(String, Plan)> {
     settings.map(|setting| (format!("no event, {} Hz, ceiling {}", setting.0, setting.1), plan(setting))).into()
 }
 
+fn kinds(minutes: u64) -> Vec<(String, Plan)> {
+    let plans = [What::Working, What::Found].map(|what| plan(what, 48_000, 500, 480, 60 * minutes));
+    plans.map(|(what, plan)| (format!("{what}, 16-bit"), plan)).into()
+}
+
 /// So many replays one after the other, as one time.
 fn timed(inputs: &mut Inputs, turns: u32, run: fn(&mut Inputs) -> Vec<u8>) -> (Time, Vec<u8>) {
     let (mut time, mut log) = (Time::default(), Vec::new());
@@ -158,6 +166,24 @@ fn measured(what: String, plan: Plan, turns: u32) -> Row {
     }
     eprintln!("timed: {what}");
     Row { what, times, oracle }
+}
+
+/// A recording with 16-bit samples and the same with f32 ones (request g), both by our replay, each first in every second run. Both logs must be the oracle's.
+fn both_kinds(what: String, plan: Plan) -> Row {
+    let shorts = as_shorts(&Long::new(1, plan).whole());
+    let floats = convert(true, &shorts).given.expect("a whole recording has another form");
+    let due = replay::log(&floats).into_bytes();
+    let mut sides = [("shorts", shorts), ("floats", floats)].map(|(name, recording)| Inputs::of(&format!("{}/{name}", folder()), &recording));
+    let mut times: [Vec<Time>; 3] = Default::default();
+    for run in 0..RUNS {
+        for side in [0, 1].map(|side| (run + side) % 2) {
+            let (time, log) = timed(&mut sides[side], 1, ours::replay);
+            assert!(log == due, "{what}: the log is another than the oracle's");
+            times[side].push(time);
+        }
+    }
+    eprintln!("timed: {what}");
+    Row { what, times, oracle: 0.0 }
 }
 
 fn lines(log: &[u8]) -> usize {

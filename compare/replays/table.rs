@@ -66,3 +66,14 @@ pub fn reading(rows: &[Row]) {
     }
     println!();
 }
+
+/// Rows of ours alone: 16-bit samples in the place of ours, and the same as f32 in the place of the Rust's.
+pub fn kinds(rows: &[Row]) {
+    println!("| Ours over 16-bit samples and over the same as f32 | 16-bit | f32 | Ratio of minima | Of medians |");
+    println!("|---|---|---|---|---|");
+    for row in rows {
+        let (least, median) = row.ratios(WORK, 1);
+        println!("| {} | {} | {} | {least:.2} | {median:.2} |", row.what, told(row.least(WORK, 0)), told(row.least(WORK, 1)));
+    }
+    println!();
+}

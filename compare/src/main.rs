@@ -45,6 +45,8 @@ compare parts SEED COUNT PROGRAM      runs PROGRAM LOG LOG on random pairs of lo
 compare long-logs LINES FOLDER        writes first and second, two logs of so many lines that differ in one
 compare histories SEED CYCLES         tells verdicts from random histories by request m's sentences, beside track.rs
 compare replays SEED COUNT PROGRAM    runs PROGRAM EVENTS FAR NEAR on random recordings and compares what it prints
+compare conversions SEED COUNT CONVERTER REPLAY
+                                      runs CONVERTER on random recordings of both forms, right and damaged, there and back, and REPLAY on what it leaves
 compare checks SEED COUNT PROGRAM     runs PROGRAM EVENTS FAR NEAR LOG on random recordings and logs, right and with one fault each";
 
 fn main() {
@@ -55,6 +57,9 @@ fn main() {
         ["replays", seed, count, program] => replays(seed, count, program),
         ["parts", seed, count, program] => parts(seed, count, program),
         ["checks", seed, count, program] => checks(seed, count, program),
+        ["conversions", seed, count, converter, replay] => {
+            conversions(seed, count, converter, replay)
+        }
         ["long-logs", lines, folder] => long_logs(lines, folder),
         ["histories", seed, cycles] => histories(seed, cycles),
         ["long", which, minutes, folder] => minutes_long(which, minutes, folder),
@@ -162,4 +167,10 @@ fn checks(seed: &str, count: &str, program: &str) -> Result<(), String> {
     let seed = seed.parse().map_err(|_| format!("'{seed}' is no seed"))?;
     let count = count.parse().map_err(|_| format!("'{count}' is no count"))?;
     replay::checks::run(seed, count, program)
+}
+
+fn conversions(seed: &str, count: &str, converter: &str, replay: &str) -> Result<(), String> {
+    let seed = seed.parse().map_err(|_| format!("'{seed}' is no seed"))?;
+    let count = count.parse().map_err(|_| format!("'{count}' is no count"))?;
+    replay::conversions::run(seed, count, converter, replay)
 }

@@ -54,18 +54,20 @@ def frame_times(stored: Stored) -> list:
     """After how many near samples each frame of a log was full, sample by sample: docs/SPECIFICATION.md, sections 6 to 8."""
     lines = stored.log.splitlines()
     answers = [line.split()[2] for line in lines if line.startswith("frame ")]
-    rate, _, count, _, _, _ = struct.unpack_from("<6I", stored.events)
+    rate, _, count, offset, _, _ = struct.unpack_from("<6I", stored.events)
+    shorts = offset == 28 and struct.unpack_from("<I", stored.events, 24) == (2,)
+    letter, width = ("h", 2) if shorts else ("f", 4)
     block = (rate + 500) // 1000
     whole = 256 * (rate // block) // 1000 * block
     bad = int(lines[-1].split()[2]) if lines[-1].startswith("bad event") else count
     times, heard, taken, last, counted, finished = [], 0, 0, 0, 0, False
     for event in range(bad):
-        kind, size, index = struct.unpack_from("<IIQ", stored.events, 24 + 16 * event)
+        kind, size, index = struct.unpack_from("<IIQ", stored.events, offset + 16 * event)
         if kind in (3, 4):
             taken = 0
         if kind == 3:
             counted, finished = 0, False
-        samples = struct.unpack_from(f"<{size}f", stored.near, 4 * heard) if kind == 2 else ()
+        samples = struct.unpack_from(f"<{size}{letter}", stored.near, width * heard) if kind == 2 else ()
         for k, sample in enumerate(samples):
             if finished or index + k >= 2**62:
                 break

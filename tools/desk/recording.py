@@ -25,15 +25,25 @@ class Event(NamedTuple):
         return self.kind in (INTERIOR, EDGE) or (REARM <= self.kind <= DISCONTINUITY and self.count == self.number == 0)
 
 
+KIND = struct.Struct("<I")  # the sample kind, behind the six numbers of a sibling's header
+SAMPLES = {1: ("f", 1), 2: ("h", 32768)}  # by sample kind: how one is stored, and what its number is divided by
+
+
 class Header(NamedTuple):
     rate: int
     ceiling: int
     events: int
     far: int
     near: int
+    kind: Optional[int] = None  # the form of the scope paper has none
 
     def packed(self) -> bytes:
-        return HEADER.pack(self.rate, self.ceiling, self.events, HEADER.size, self.far, self.near)
+        return HEADER.pack(self.rate, self.ceiling, self.events, self.offset, self.far, self.near) + (KIND.pack(self.kind) if self.kind else b"")
+
+    @property
+    def offset(self) -> int:
+        """Where the events begin."""
+        return HEADER.size + KIND.size if self.kind else HEADER.size
 
     @property
     def bin(self) -> int:
@@ -48,13 +58,13 @@ class Header(NamedTuple):
 
 class Recording(NamedTuple):
     path: pathlib.Path
-    header: Optional[Header]  # none where there are not 24 bytes of it, or its events stand elsewhere
+    header: Optional[Header]  # none where it is short, or has none of the three forms
     near: Optional[pathlib.Path]  # the near samples, where they are at hand
 
     def events(self) -> Iterator[Event]:
         """As many events as the header announces and the file has whole."""
         with self.path.open("rb") as file:
-            file.seek(HEADER.size)
+            file.seek(self.header.offset)
             left = self.header.events
             while left:
                 data = file.read(min(left, MOST_SAMPLES) * ENTRY.size)
@@ -64,16 +74,29 @@ class Recording(NamedTuple):
 
     def samples(self, first: int, count: int) -> tuple:
         """Near samples; the first one is counted from the beginning of the near input."""
+        letter, divisor = SAMPLES[self.header.kind or 1]
+        width = struct.calcsize("<" + letter)
         with self.near.open("rb") as file:
-            file.seek(4 * first)
-            data = file.read(4 * count)
-        return struct.unpack(f"<{len(data) // 4}f", data[: len(data) // 4 * 4])
+            file.seek(width * first)
+            data = file.read(width * count)
+        whole = len(data) // width
+        return tuple(number / divisor for number in struct.unpack(f"<{whole}{letter}", data[: whole * width]))
 
 
 def read(path: pathlib.Path, near: Optional[pathlib.Path] = None) -> Recording:
     with path.open("rb") as file:
-        data = file.read(HEADER.size)
+        data = file.read(HEADER.size + KIND.size)
+    return Recording(path, header(data), near)
+
+
+def header(data: bytes) -> Optional[Header]:
+    """The header of any of the three forms, or none. Rate and ceiling are not judged."""
     if len(data) < HEADER.size:
-        return Recording(path, None, near)
-    rate, ceiling, events, offset, far, near_total = HEADER.unpack(data)
-    return Recording(path, Header(rate, ceiling, events, far, near_total) if offset == HEADER.size else None, near)
+        return None
+    rate, ceiling, events, offset, far, near = HEADER.unpack(data[: HEADER.size])
+    if offset == HEADER.size:
+        return Header(rate, ceiling, events, far, near)
+    if offset != HEADER.size + KIND.size or len(data) < offset:
+        return None
+    (kind,) = KIND.unpack(data[HEADER.size : offset])
+    return Header(rate, ceiling, events, far, near, kind) if kind in SAMPLES else None

@@ -1,13 +1,16 @@
 //! The scope paper's replay around the unchanged scan and tracker: a recording in, its log out.
 
 pub mod checks;
+pub mod conversions;
 pub mod differ;
+pub mod forms;
 pub mod maker;
 pub mod recordings;
 
 use crate::coarse::{CoarseScan, FrameAnswer};
 use crate::delay::ReacquireTrigger;
 use crate::track::{CycleOutcome, TrackVerdict, Tracker};
+use forms::Form;
 
 /// The three inputs.
 #[derive(Clone, Default)]
@@ -56,6 +59,7 @@ struct Event {
 
 /// The samples of one side: those that are there, those that are announced and those that were used.
 struct Side<'a> {
+    form: Form,
     bytes: &'a [u8],
     total: u64,
     used: u64,
@@ -64,20 +68,20 @@ struct Side<'a> {
 impl Side<'_> {
     fn has(&self, count: u32) -> bool {
         let end = self.used + count as u64;
-        end <= self.total && 4 * end <= self.bytes.len() as u64
+        end <= self.total && self.form.width as u64 * end <= self.bytes.len() as u64
     }
 
     fn take(&mut self, count: u32) -> Vec<f32> {
         let first = self.used as usize;
         self.used += count as u64;
-        let pieces = self.bytes.chunks_exact(4).skip(first).take(count as usize);
-        pieces
-            .map(|piece| f32::from_bits(number(piece) as u32))
-            .collect()
+        let pieces = self.bytes.chunks_exact(self.form.width).skip(first);
+        let pieces = pieces.take(count as usize);
+        pieces.map(|piece| self.form.sample(piece)).collect()
     }
 }
 
 struct Run<'a> {
+    form: Form,
     events: &'a [u8],
     count: u32,
     far: Side<'a>,
@@ -93,7 +97,7 @@ struct Run<'a> {
 }
 
 /// A little-endian number of up to eight bytes.
-fn number(bytes: &[u8]) -> u64 {
+pub fn number(bytes: &[u8]) -> u64 {
     bytes
         .iter()
         .rev()
@@ -105,17 +109,17 @@ impl Run<'_> {
     fn new(recording: &Recording) -> Option<Run<'_>> {
         let header = recording.events.get(..HEADER_LEN)?;
         let field = |at: usize| number(&header[4 * at..4 * at + 4]) as u32;
-        let (rate, ceiling, offset) = (field(0), field(1), field(3));
+        let (rate, ceiling) = (field(0), field(1));
         let allowed = (8000..=192_000).contains(&rate) && (1..=4000).contains(&ceiling);
-        if !allowed || offset != HEADER_LEN as u32 {
-            return None;
-        }
+        let form = Form::of(&recording.events).filter(|_| allowed)?;
         let side = |bytes, total| Side {
+            form,
             bytes,
             total,
             used: 0,
         };
         Some(Run {
+            form,
             events: &recording.events,
             count: field(2),
             far: side(&recording.far, field(4) as u64),
@@ -150,7 +154,7 @@ impl Run<'_> {
 
     /// Nothing for a bad event.
     fn event(&self, at: u32) -> Option<Event> {
-        let first = HEADER_LEN + EVENT_LEN * at as usize;
+        let first = self.form.offset + EVENT_LEN * at as usize;
         let bytes = self.events.get(first..first + EVENT_LEN)?;
         let kind = number(&bytes[..4]) as u32;
         let count = number(&bytes[4..8]) as u32;

@@ -16,7 +16,7 @@ use Rattle.log_hold.specs.declared.Due.the-variants as due
 use Rattle.log_hold.specs.declared.Stands.the-variants.{Right, Wrong, Over}
 use Rattle.recording.specs.declared.Header.{Header}
 use Rattle.recording.specs.declared.Start.the-variants as start
-use Rattle.recording.specs.Recording.{opened}
+use Rattle.recording.specs.Recording.{offsetOf, opened}
 use Rattle.replay.specs.Beginning.{beginning, beginningOf}
 use Rattle.replay.specs.Log.{logOf}
 use Rattle.replay.specs.declared.Session.{Session}
@@ -116,9 +116,9 @@ module _ (events far near : List ℕ) (h : Header) where
 
 -- what is to come at the start is the log
 start-log : (events far near : List ℕ) (h : Header) (lent cleared : Buffers) (s : Session) → opened events ≡ start.Opened h → beginning (begun.Ready s) cleared ≡ beginningOf h lent
-    → to-come events far near h (opens s) cleared (rest (drop 24 events) far near) ≡ logOf events far near
+    → to-come events far near h (opens s) cleared (rest (drop (offsetOf (h .form)) events) far near) ≡ logOf events far near
 start-log events far near h lent cleared s q ready =
-    let r = rest (drop 24 events) far near in
+    let r = rest (drop (offsetOf (h .form)) events) far near in
     let st = ready-stands events far near h lent cleared s q ready in
     let end = patient-ends events far near h all-at-once (opens s) cleared r st in
     sym (streamed-lines events far near h (opens s) cleared r (end .0) (end .1) st) ∙ opened-log events far near h lent cleared s (end .0) q ready (end .1)
@@ -131,5 +131,5 @@ checked-is events far near log v (host.unopened v₁ first f w q holds) =
     ∙ ap (λ (ls : List Line). firstApart 1 (linesOf log) (map textOf ls)) (streamed-log events far near (line.BadHeader ∷ []) (hosts.unopened first f w q))
 checked-is events far near log v (host.checks v₁ first h lent cleared s f w q ready checking) =
     let q₁ = header-handed events first f w ∙ q in
-    checking-apart events far near h (opens s) cleared (rest (drop 24 events) far near) 1 log v₁ checking (ready-stands events far near h lent cleared s q₁ ready)
+    checking-apart events far near h (opens s) cleared (rest (drop (offsetOf (h .form)) events) far near) 1 log v₁ checking (ready-stands events far near h lent cleared s q₁ ready)
     ∙ ap (λ (ls : List Line). firstApart 1 (linesOf log) (map textOf ls)) (start-log events far near h lent cleared s q₁ ready)

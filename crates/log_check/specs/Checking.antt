@@ -14,7 +14,7 @@ use Rattle.log_text.specs.Apart.{Side, Nothing, There, Apart, Same, At, front}
 use Rattle.log_hold.specs.Held.{held}
 use Rattle.log_hold.specs.declared.Due.the-variants as due
 use Rattle.log_hold.specs.declared.Stands.the-variants.{Right, Wrong, Over}
-use Rattle.recording.specs.Recording.{opened}
+use Rattle.recording.specs.Recording.{offsetOf, opened, headerLength}
 use Rattle.recording.specs.declared.Header.{Header}
 use Rattle.recording.specs.declared.Start.the-variants as start
 use Rattle.replay.specs.Beginning.{beginning, beginningOf}
@@ -52,9 +52,9 @@ pub data Checking (h : Header) : Place → Buffers → Rest → ℕ → List ℕ
   accepted : (q : Place) (b : Buffers) (r : Rest) (k : ℕ) (log : List ℕ) (c : NextCall h q b r) (p : Piece) (f : Front log p) → c .gave .answer ≡ answer.Over
       → held due.Nothing (p .bytes) (p .ended) ≡ Over → Checking h q b r k log Same
 
--- all of it: the header is read from 24 bytes at hand, or from all where there are fewer, and the log's lines are numbered from 1
+-- all of it: the header is read from as many bytes at hand as its first 24 say that it has, or from all where there are fewer, and the log's lines are numbered from 1
 pub data Checks (events far near log : List ℕ) : Apart → Type 0 where
-  unopened : (v : Apart) (first : Piece) → Front events first → short 24 first ≡ false → opened (first .bytes) ≡ start.BadHeader → Holds 1 (line.BadHeader ∷ []) log v → Checks events far near log v
-  checks : (v : Apart) (first : Piece) (h : Header) (lent cleared : Buffers) (s : Session) → Front events first → short 24 first ≡ false
+  unopened : (v : Apart) (first : Piece) → Front events first → short (headerLength (first .bytes)) first ≡ false → opened (first .bytes) ≡ start.BadHeader → Holds 1 (line.BadHeader ∷ []) log v → Checks events far near log v
+  checks : (v : Apart) (first : Piece) (h : Header) (lent cleared : Buffers) (s : Session) → Front events first → short (headerLength (first .bytes)) first ≡ false
       → opened (first .bytes) ≡ start.Opened h → beginning (begun.Ready s) cleared ≡ beginningOf h lent
-      → Checking h (opens s) cleared (rest (drop 24 events) far near) 1 log v → Checks events far near log v
+      → Checking h (opens s) cleared (rest (drop (offsetOf (h .form)) events) far near) 1 log v → Checks events far near log v

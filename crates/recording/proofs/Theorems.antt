@@ -1,6 +1,6 @@
 -- The promises of recordings: what was written is read back, and nothing past what is announced is read.
 use mathlib.Core.Path.{_≡_, refl, sym, ap, _∙_}
-use mathlib.Core.Bool.{true}
+use mathlib.Core.Bool.{Bool, true, false}
 use mathlib.Core.List.{List, _++_}
 use Prim.Native.Nat.{ℕ, zero, suc, _+_, _*_, _/_, _^_, _<_, _≤_}
 use native.Mathlib.Nat.{div-lt-iff-lt-mul, pow-succ'}
@@ -10,11 +10,15 @@ use lib.ListN.{length, drop, length-append, length-drop}
 use lib.Seq.{take-append-le, drop-append-le, drop-append-add}
 use borrow.Author.Tests.{le-leb, ltb-true, eqb-true}
 use Rattle.answers.proofs.Passed.{both-true, within-most}
-use Rattle.answers.specs.Pick.{pick, both, pick-case}
+use Rattle.answers.specs.Pick.{pick, both, pick-true, pick-false, pick-case}
 use Rattle.answers.specs.Numbers.{allowedRate, allowedCeiling}
 use Rattle.recording.specs.Bytes.{number, numberAt, bytes}
-use Rattle.recording.specs.Recording.{opened, headerBytes, someSamples, unused, onlyIf, eventOf, eventAt, kindOf, countOf, numberOf, allowed, eventBytes}
-use Rattle.recording.specs.Samples.{samplesIn}
+use Rattle.recording.specs.Recording.{u32At, shapeAt, headed, opened, headerBytes, headerLength, someSamples, unused, onlyIf, eventOf, eventAt, kindOf, countOf, numberOf, allowed, eventBytes}
+use Rattle.recording.specs.Samples.{width, bytesOf, samplesIn}
+use Rattle.recording.specs.declared.Form.{Form}
+use Rattle.recording.specs.declared.Form.the-variants.{Plain, Floats, Shorts}
+use Rattle.recording.specs.declared.Shape.{Shape}
+use Rattle.recording.specs.declared.Shape.the-variants.{Known, NoForm}
 use Rattle.recording.specs.declared.Header.{Header}
 use Rattle.recording.specs.declared.Start.the-variants.{Opened}
 use Rattle.recording.specs.declared.Event.{Event}
@@ -39,36 +43,99 @@ number-within n s rest at h =
 
 -- ---- the header
 
+header-of : Form → ℕ → ℕ → ℕ → ℕ → ℕ → Header
+header-of form rate ceiling events far near = record { form = form; rate = rate; ceiling = ceiling; events = events; far = far; near = near }
+
+module _ (rate ceiling events far near : ℕ) (rest : List ℕ) (r : allowedRate rate ≡ true) (c : allowedCeiling ceiling ≡ true) (d : events < 2 ^ 32) (e : far < 2 ^ 32) (f : near < 2 ^ 32) where
+  written : (form : Form) → opened (headerBytes (header-of form rate ceiling events far near) ++ rest) ≡ Opened (header-of form rate ceiling events far near)
+  unfolding opened shapeAt numberAt pick header-of
+  written Plain =
+      rw (
+        le-leb 24 (length (headerBytes (header-of Plain rate ceiling events far near) ++ rest)) (omega arith),
+        number-back 4 rate (omega (arith, within-most 8000 192000 rate r)),
+        number-back 4 ceiling (omega (arith, within-most 1 4000 ceiling c)),
+        number-back 4 events d,
+        number-back 4 far e,
+        number-back 4 near f,
+        r,
+        c,
+      )
+  written Floats =
+      rw (
+        le-leb 24 (length (headerBytes (header-of Floats rate ceiling events far near) ++ rest)) (omega arith),
+        le-leb 28 (length (headerBytes (header-of Floats rate ceiling events far near) ++ rest)) (omega arith),
+        number-back 4 rate (omega (arith, within-most 8000 192000 rate r)),
+        number-back 4 ceiling (omega (arith, within-most 1 4000 ceiling c)),
+        number-back 4 events d,
+        number-back 4 far e,
+        number-back 4 near f,
+        r,
+        c,
+      )
+  written Shorts =
+      rw (
+        le-leb 24 (length (headerBytes (header-of Shorts rate ceiling events far near) ++ rest)) (omega arith),
+        le-leb 28 (length (headerBytes (header-of Shorts rate ceiling events far near) ++ rest)) (omega arith),
+        number-back 4 rate (omega (arith, within-most 8000 192000 rate r)),
+        number-back 4 ceiling (omega (arith, within-most 1 4000 ceiling c)),
+        number-back 4 events d,
+        number-back 4 far e,
+        number-back 4 near f,
+        r,
+        c,
+      )
+
 pub header-back : (h : Header) (rest : List ℕ) → allowedRate (h .rate) ≡ true → allowedCeiling (h .ceiling) ≡ true →
     h .events < 2 ^ 32 → h .far < 2 ^ 32 → h .near < 2 ^ 32 → opened (headerBytes h ++ rest) ≡ Opened h
-unfolding opened numberAt pick
-header-back h rest r c d e f =
-    rw (
-      le-leb 24 (length (headerBytes h ++ rest)) (omega arith),
-      number-back 4 (h .rate) (omega (arith, within-most 8000 192000 (h .rate) r)),
-      number-back 4 (h .ceiling) (omega (arith, within-most 1 4000 (h .ceiling) c)),
-      number-back 4 (h .events) d,
-      number-back 4 (h .far) e,
-      number-back 4 (h .near) f,
-      r,
-      c,
-    )
+unfolding header-of
+header-back h rest r c d e f = written (h .rate) (h .ceiling) (h .events) (h .far) (h .near) rest r c d e f (h .form)
 
 -- bytes past the header are not read for it
-pub header-within : (s rest : List ℕ) → 24 ≤ length s → opened (s ++ rest) ≡ opened s
-unfolding opened
-header-within s rest h =
-    let l : 24 ≤ length (s ++ rest) = simp length-append (omega arith) in
-    rw (
-      le-leb 24 (length (s ++ rest)) l,
-      le-leb 24 (length s) h,
-      number-within 4 s rest 0 (omega arith),
-      number-within 4 s rest 4 (omega arith),
-      number-within 4 s rest 8 (omega arith),
-      number-within 4 s rest 12 (omega arith),
-      number-within 4 s rest 16 (omega arith),
-      number-within 4 s rest 20 (omega arith),
-    )
+module _ (s rest : List ℕ) (h : headerLength s ≤ length s) where
+  least : 24 ≤ length s
+  unfolding headerLength
+  least = pick-case (λ (n : ℕ). n ≤ length s → 24 ≤ length s) (both (leb 24 (length s)) (eqb (u32At s 12) 28)) 28 24 (λ t l. omega arith) (λ t l. omega arith) h
+
+  sibling-whole : eqb (u32At s 12) 28 ≡ true → 28 ≤ length s
+  unfolding headerLength
+  sibling-whole e = rw (pick-true _ _ _ (pick-true _ _ _ (le-leb 24 (length s) least) ∙ e)) at h
+
+  shape-within : (t : Bool) → eqb (u32At s 12) 28 ≡ t → shapeAt (s ++ rest) ≡ shapeAt s
+  unfolding shapeAt
+  shape-within true e =
+      let l : 28 ≤ length (s ++ rest) = simp length-append (omega (arith, sibling-whole e)) in
+      rw (number-within 4 s rest 12 (omega (arith, least)), number-within 4 s rest 24 (omega (arith, sibling-whole e)), le-leb 28 (length (s ++ rest)) l, le-leb 28 (length s) (sibling-whole e))
+  shape-within false e =
+      rw (number-within 4 s rest 12 (omega (arith, least)), pick-false _ _ _ (pick-false _ (leb 28 (length (s ++ rest))) false e), pick-false _ _ _ (pick-false _ (leb 28 (length s)) false e))
+
+  headed-within : (x : Shape) → headed (s ++ rest) x ≡ headed s x
+  headed-within (Known form) = rw (
+    number-within 4 s rest 0 (omega (arith, least)),
+    number-within 4 s rest 4 (omega (arith, least)),
+    number-within 4 s rest 8 (omega (arith, least)),
+    number-within 4 s rest 16 (omega (arith, least)),
+    number-within 4 s rest 20 (omega (arith, least)),
+  )
+  headed-within NoForm = refl
+
+  pub header-within : opened (s ++ rest) ≡ opened s
+  unfolding opened
+  header-within =
+      let l : 24 ≤ length (s ++ rest) = simp length-append (omega (arith, least)) in
+      rw (
+        le-leb 24 (length (s ++ rest)) l,
+        le-leb 24 (length s) least,
+        number-within 4 s rest 0 (omega (arith, least)),
+        number-within 4 s rest 4 (omega (arith, least)),
+        shape-within (eqb (u32At s 12) 28) refl,
+        headed-within (shapeAt s),
+      )
+
+  pub length-within : headerLength (s ++ rest) ≡ headerLength s
+  unfolding headerLength
+  length-within =
+      let l : 24 ≤ length (s ++ rest) = simp length-append (omega (arith, least)) in
+      rw (le-leb 24 (length (s ++ rest)) l, le-leb 24 (length s) least, number-within 4 s rest 12 (omega (arith, least)))
 
 -- ---- events
 
@@ -169,7 +236,7 @@ fields-read kind count number =
 
 -- ---- samples
 
-pub samples-within : (s rest : List ℕ) (n : ℕ) → 4 * n ≤ length s → samplesIn (s ++ rest) n ≡ samplesIn s n
+pub samples-within : (form : Form) (s rest : List ℕ) (n : ℕ) → bytesOf form n ≤ length s → samplesIn form (s ++ rest) n ≡ samplesIn form s n
 unfolding samplesIn
-samples-within s rest zero h = refl
-samples-within s rest (suc n) h = rw (samples-within s rest n (omega arith), number-within 4 s rest (4 * n) (omega arith))
+samples-within form s rest zero h = refl
+samples-within form s rest (suc n) h = rw (samples-within form s rest n (omega arith), number-within (width form) s rest (bytesOf form n) (omega arith))

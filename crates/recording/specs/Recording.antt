@@ -1,12 +1,16 @@
 -- SPECIFICATION 12: the header and the events of a recording.
 use Prim.Native.Nat.{ℕ, _+_, _^_}
 use mathlib.Core.Bool.{Bool, true}
-use mathlib.Core.List.{List, _++_}
+use mathlib.Core.List.{List, [], _++_}
 use lib.Dec.{ltb, leb, eqb}
 use lib.ListN.{length}
 use Rattle.answers.specs.Pick.{pick, both}
 use Rattle.answers.specs.Numbers.{within, allowedRate, allowedCeiling}
 use Rattle.recording.specs.Bytes.{numberAt, bytes}
+use Rattle.recording.specs.declared.Form.{Form}
+use Rattle.recording.specs.declared.Form.the-variants.{Plain, Floats, Shorts}
+use Rattle.recording.specs.declared.Shape.{Shape}
+use Rattle.recording.specs.declared.Shape.the-variants.{Known, NoForm}
 use Rattle.recording.specs.declared.Header.{Header}
 use Rattle.recording.specs.declared.Start.{Start}
 use Rattle.recording.specs.declared.Start.the-variants.{Opened, BadHeader}
@@ -15,24 +19,51 @@ use Rattle.recording.specs.declared.Event.the-variants.{Far, Near, Rearm
 use Rattle.recording.specs.declared.Entry.{Entry}
 use Rattle.recording.specs.declared.Entry.the-variants.{Good, Bad}
 
--- ---- the header: six u32, in the first 24 bytes
+-- ---- the header: six u32, in the first 24 bytes; in a sibling of the scope paper's form a seventh, the sample kind, behind them
 
 abbrev pub u32At : List ℕ → ℕ → ℕ
 u32At s at = numberAt 4 s at
 
-abbrev pub headerAt : List ℕ → Header
-headerAt s = record { rate = u32At s 0; ceiling = u32At s 4; events = u32At s 8; far = u32At s 16; near = u32At s 20 }
+-- The events begin behind the header.
+abbrev pub offsetOf : Form → ℕ
+offsetOf Plain = 24
+offsetOf Floats = 28
+offsetOf Shorts = 28
 
--- A header is bad if it is short, if the offset of the events is not 24, or if rate or ceiling is outside the table.
+-- Sample kind 1 is f32 and 2 is i16.
+abbrev pub siblingOf : ℕ → Shape
+siblingOf kind = pick (eqb kind 1) (Known Floats) (pick (eqb kind 2) (Known Shorts) NoForm)
+
+-- The offset of the events tells the form. A sibling has 28 bytes of header, and its sample kind is one of the two.
+unfoldable pub shapeAt : List ℕ → Shape
+shapeAt s =
+    pick (eqb (u32At s 12) 24) (Known Plain) (
+    pick (both (eqb (u32At s 12) 28) (leb 28 (length s))) (siblingOf (u32At s 24))
+    NoForm)
+
+abbrev pub headerAt : Form → List ℕ → Header
+headerAt form s = record { form = form; rate = u32At s 0; ceiling = u32At s 4; events = u32At s 8; far = u32At s 16; near = u32At s 20 }
+
+abbrev pub headed : List ℕ → Shape → Start
+headed s (Known form) = Opened (headerAt form s)
+headed s NoForm = BadHeader
+
+-- A header is bad if it is short, if it has no form, or if rate or ceiling is outside the table.
 unfoldable pub opened : List ℕ → Start
-opened s =
-    pick (both (leb 24 (length s)) (both (eqb (u32At s 12) 24) (both (allowedRate (u32At s 0)) (allowedCeiling (u32At s 4)))))
-    (Opened (headerAt s))
-    BadHeader
+opened s = pick (both (leb 24 (length s)) (both (allowedRate (u32At s 0)) (allowedCeiling (u32At s 4)))) (headed s (shapeAt s)) BadHeader
+
+-- Tells from the first 24 bytes how many a header has: no byte behind it is read for it.
+unfoldable pub headerLength : List ℕ → ℕ
+headerLength s = pick (both (leb 24 (length s)) (eqb (u32At s 12) 28)) 28 24
 
 -- Gives a header as bytes.
+abbrev pub kindBytes : Form → List ℕ
+kindBytes Plain = []
+kindBytes Floats = bytes 4 1
+kindBytes Shorts = bytes 4 2
+
 abbrev pub headerBytes : Header → List ℕ
-headerBytes h = bytes 4 (h .rate) ++ bytes 4 (h .ceiling) ++ bytes 4 (h .events) ++ bytes 4 24 ++ bytes 4 (h .far) ++ bytes 4 (h .near)
+headerBytes h = bytes 4 (h .rate) ++ bytes 4 (h .ceiling) ++ bytes 4 (h .events) ++ bytes 4 (offsetOf (h .form)) ++ bytes 4 (h .far) ++ bytes 4 (h .near) ++ kindBytes (h .form)
 
 -- ---- an event: kind, count and number
 

@@ -5,12 +5,27 @@ ghost use lib.ListN.{length, getD};
 ghost use Rattle.recording.specs.Bytes.{numberAt};
 ghost use Rattle.recording.specs.Recording;
 ghost use Rattle.answers.specs.Pick.{both};
-ghost use Rattle.recording.specs.Recording.{opened, someSamples, onlyIf, eventOf, eventAt};
+ghost use Rattle.recording.specs.Recording.{siblingOf, shapeAt, headerAt, opened, headerLength, offsetOf, someSamples, onlyIf, eventOf, eventAt};
 ghost use Rattle.recording.specs.Samples;
-ghost use Rattle.recording.specs.Samples.{samplesOf, decoded, decodedCount, admitted, allUsed};
+ghost use Rattle.recording.specs.Samples.{bytesOf, samplesOf, decoded, decodedCount, admitted, allUsed};
+
+// How a recording stores its samples: Plain is the form of the scope paper, with 24 bytes of header and f32 samples. Its siblings have 28 bytes of header, and
+// f32 samples (Floats) or signed 16-bit ones (Shorts).
+pub enum Form {
+    Plain,
+    Floats,
+    Shorts,
+}
+
+// The form that a header tells, if it tells one.
+pub enum Shape {
+    Known(Form),
+    NoForm,
+}
 
 // far and near are totals of samples.
 pub struct Header {
+    pub form: Form,
     pub rate: u32,
     pub ceiling: u32,
     pub events: u32,
@@ -77,7 +92,7 @@ fn four(s: &[u8], at: usize) -> u64
     byte(s, at) + 256 * byte(s, at + 1) + 65536 * byte(s, at + 2) + 16777216 * byte(s, at + 3)
 }
 
-fn u32_at(s: &[u8], at: usize) -> u32
+pub fn u32_at(s: &[u8], at: usize) -> u32
     requires { ⌜ at + 4 ≤ length (now s) ⌝ }
     ensures { λ r. ⌜ r ≡ numberAt 4 (now (s .entry)) at ⌝ }
 {
@@ -91,6 +106,56 @@ fn u64_at(s: &[u8], at: usize) -> u64
     four(s, at) + 4294967296 * four(s, at + 4)
 }
 
+pub fn u16_at(s: &[u8], at: usize) -> u16
+    requires { ⌜ at + 2 ≤ length (now s) ⌝ }
+    ensures { λ r. ⌜ r ≡ numberAt 2 (now (s .entry)) at ⌝ }
+{
+    (byte(s, at) + 256 * byte(s, at + 1)) as u16
+}
+
+// ---- the header
+
+fn sibling(kind: u32) -> Shape
+    ensures { λ r. ⌜ r ≡ siblingOf kind ⌝ }
+{
+    match kind {
+        1 => Shape::Known(Form::Floats),
+        2 => Shape::Known(Form::Shorts),
+        _ => Shape::NoForm,
+    }
+}
+
+fn shape_at(s: &[u8]) -> Shape
+    requires { ⌜ 24 ≤ length (now s) ⌝ }
+    ensures { λ r. ⌜ r ≡ shapeAt (now (s .entry)) ⌝ }
+{
+    let offset = u32_at(s, 12);
+    if offset == 24 {
+        return Shape::Known(Form::Plain);
+    }
+    if offset != 28 {
+        return Shape::NoForm;
+    }
+    if s.len() < 28 {
+        return Shape::NoForm;
+    }
+    sibling(u32_at(s, 24))
+}
+
+fn header_at(form: Form, s: &[u8]) -> Header
+    requires { ⌜ 24 ≤ length (now s) ⌝ }
+    ensures { λ r. ⌜ r ≡ headerAt form (now (s .entry)) ⌝ }
+{
+    Header {
+        form,
+        rate: u32_at(s, 0),
+        ceiling: u32_at(s, 4),
+        events: u32_at(s, 8),
+        far: u32_at(s, 16),
+        near: u32_at(s, 20),
+    }
+}
+
 // Reads the header at the start of the event input.
 pub fn open(s: &[u8]) -> Start
     ensures { λ r. ⌜ r ≡ opened (now (s .entry)) ⌝ }
@@ -98,25 +163,44 @@ pub fn open(s: &[u8]) -> Start
     if s.len() < 24 {
         return Start::BadHeader;
     }
-    if u32_at(s, 12) != 24 {
+    if !answers::allowed_rate(u32_at(s, 0)) {
         return Start::BadHeader;
     }
-    let rate = u32_at(s, 0);
-    if !answers::allowed_rate(rate) {
+    if !answers::allowed_ceiling(u32_at(s, 4)) {
         return Start::BadHeader;
     }
-    let ceiling = u32_at(s, 4);
-    if !answers::allowed_ceiling(ceiling) {
-        return Start::BadHeader;
+    let shape = shape_at(s);
+    match shape {
+        Shape::Known(form) => Start::Opened(header_at(form, s)),
+        Shape::NoForm => Start::BadHeader,
     }
-    Start::Opened(Header {
-        rate,
-        ceiling,
-        events: u32_at(s, 8),
-        far: u32_at(s, 16),
-        near: u32_at(s, 20),
-    })
 }
+
+// Tells from its first 24 bytes how many a header has. A host reads 24, and 4 more only where this says so.
+pub fn header_length(s: &[u8]) -> usize
+    ensures { λ r. ⌜ r ≡ headerLength (now (s .entry)) ⌝ }
+{
+    if s.len() < 24 {
+        return 24;
+    }
+    if u32_at(s, 12) == 28 {
+        return 28;
+    }
+    24
+}
+
+// Gives the offset of the events, which is the header's length.
+pub fn offset_of(form: Form) -> usize
+    ensures { λ r. ⌜ r ≡ offsetOf form ⌝ }
+{
+    match form {
+        Form::Plain => 24,
+        Form::Floats => 28,
+        Form::Shorts => 28,
+    }
+}
+
+// ---- events
 
 fn unused(count: u32, number: u64) -> bool
     ensures { λ r. ⌜ r ≡ both (Recording.unused count) (Recording.unused number) ⌝ }
@@ -200,8 +284,19 @@ pub fn event_at(s: &[u8], at: usize) -> Entry
     event_of(u32_at(s, at), u32_at(s, at + 4), u64_at(s, at + 8))
 }
 
-fn supplied(used: u64, count: u32, total: u32, length: u64) -> bool
-    ensures { λ r. ⌜ r ≡ Samples.supplied (used + count) total length ⌝ }
+// Gives how many bytes so many samples have.
+pub fn bytes_of(form: Form, samples: u32) -> u64
+    ensures { λ r. ⌜ r ≡ bytesOf form samples ⌝ }
+{
+    match form {
+        Form::Plain => 4 * samples as u64,
+        Form::Floats => 4 * samples as u64,
+        Form::Shorts => 2 * samples as u64,
+    }
+}
+
+fn supplied(form: Form, used: u64, count: u32, total: u32, length: u64) -> bool
+    ensures { λ r. ⌜ r ≡ Samples.supplied form (used + count) total length ⌝ }
 {
     let most = total as u64;
     if most < used {
@@ -211,16 +306,17 @@ fn supplied(used: u64, count: u32, total: u32, length: u64) -> bool
     if most < samples {
         return false;
     }
-    4 * samples <= length
+    bytes_of(form, samples as u32) <= length
 }
 
 // Tells whether the totals and the bytes of the two sample inputs allow the event, and what is used after it.
 pub fn admit(header: Header, lengths: Lengths, used: Used, event: Event) -> Admission
     ensures { λ r. ⌜ r ≡ admitted header lengths used event ⌝ }
 {
+    let form = header.form;
     match event {
         Event::Far { count } => {
-            if supplied(used.far, count, header.far, lengths.far) {
+            if supplied(form, used.far, count, header.far, lengths.far) {
                 Admission::Enough(Used {
                     far: used.far + count as u64,
                     near: used.near,
@@ -230,7 +326,7 @@ pub fn admit(header: Header, lengths: Lengths, used: Used, event: Event) -> Admi
             }
         }
         Event::Near { count, first: _ } => {
-            if supplied(used.near, count, header.near, lengths.near) {
+            if supplied(form, used.near, count, header.near, lengths.near) {
                 Admission::Enough(Used {
                     far: used.far,
                     near: used.near + count as u64,
@@ -298,9 +394,8 @@ pub fn samples<'a>(far: &'a [f32], near: &'a [f32], event: Event, f: usize, n: u
     }
 }
 
-// Fills out from its start with the samples that the bytes s hold, and answers how many.
-pub fn decode(s: &[u8], out: &mut [f32]) -> usize
-    ensures { λ r. ⌜ (r ≡ decodedCount (now (s .entry)) (now (out .entry))) × (now (out .exit) ≡ decoded (now (s .entry)) (now (out .entry))) ⌝ }
+fn decode_floats(s: &[u8], out: &mut [f32]) -> usize
+    ensures { λ r. ⌜ (r ≡ decodedCount Form.Plain (now (s .entry)) (now (out .entry))) × (now (out .exit) ≡ decoded Form.Plain (now (s .entry)) (now (out .entry))) ⌝ }
 {
     let n = answers::smaller(out.len() as u64, (s.len() / 4) as u64) as usize;
     let mut i = 0;
@@ -309,4 +404,27 @@ pub fn decode(s: &[u8], out: &mut [f32]) -> usize
         i += 1;
     }
     n
+}
+
+fn decode_shorts(s: &[u8], out: &mut [f32]) -> usize
+    ensures { λ r. ⌜ (r ≡ decodedCount Form.Shorts (now (s .entry)) (now (out .entry))) × (now (out .exit) ≡ decoded Form.Shorts (now (s .entry)) (now (out .entry))) ⌝ }
+{
+    let n = answers::smaller(out.len() as u64, (s.len() / 2) as u64) as usize;
+    let mut i = 0;
+    while i < n {
+        out[i] = recording_shorts::value(u16_at(s, 2 * i));
+        i += 1;
+    }
+    n
+}
+
+// Fills out from its start with the samples that the bytes s hold, and answers how many.
+pub fn decode(form: Form, s: &[u8], out: &mut [f32]) -> usize
+    ensures { λ r. ⌜ (r ≡ decodedCount form (now (s .entry)) (now (out .entry))) × (now (out .exit) ≡ decoded form (now (s .entry)) (now (out .entry))) ⌝ }
+{
+    match form {
+        Form::Plain => decode_floats(s, out),
+        Form::Floats => decode_floats(s, out),
+        Form::Shorts => decode_shorts(s, out),
+    }
 }

@@ -1,19 +1,17 @@
 -- A start that is ready, and that `start` accepts what was opened.
 use Prim.Native.Nat.{ℕ}
-use mathlib.Core.Path.{_≡_, refl, sym, ap, _∙_}
+use mathlib.Core.Path.{_≡_, ap, _∙_}
 use mathlib.Core.Bool.{Bool, true, false}
 use mathlib.Core.List.{List}
 use native.Mathlib.Omega.{arith}
-use lib.Dec.{eqb, leb}
-use lib.ListN.{length}
+use lib.Dec.{eqb}
 use borrow.Author.Tests.{eq-eqb}
-use Rattle.answers.specs.Pick.{pick, both, pick-true}
-use Rattle.answers.specs.Numbers.{allowedRate, allowedCeiling}
-use Rattle.answers.proofs.Passed.{both-true}
+use Rattle.answers.specs.Pick.{pick, pick-true}
 use Rattle.scan.specs.Bins.{inTable, geometryOf, fullSlack}
 use Rattle.scan.specs.State.{Buffers}
 use Rattle.scan.specs.Calls.{allLengths}
-use Rattle.recording.specs.Recording.{opened, u32At, headerAt}
+use Rattle.recording.specs.Recording.{opened}
+use Rattle.recording.proofs.Forms.{opened-allowed}
 use Rattle.recording.specs.declared.Header.{Header}
 use Rattle.recording.specs.declared.Start.the-variants as start
 use Rattle.replay.specs.Log.{newSession, clearBuffers}
@@ -36,18 +34,9 @@ unfolding beginningOf
 ready-is h b c s e =
     ready-for (eqb (startRefusal (h .rate) (h .ceiling) b) 0) (startRefusal (h .rate) (h .ceiling) b) s (newSession (h .rate) (h .ceiling)) b c (clearBuffers (geometryOf (h .rate) (h .ceiling))) e
 
-opened-for : (t : Bool) (k h : Header) → pick t (start.Opened k) start.BadHeader ≡ start.Opened h → (t ≡ true) × (k ≡ h)
-unfolding pick
-opened-for true k h e = (refl, cc)
-opened-for false k h e = let z : _≡_ {A = ℕ} 0 1 = cc in absurd (omega (arith, z))
-
 pub opened-in-table : (events : List ℕ) (h : Header) → opened events ≡ start.Opened h → inTable (h .rate) (h .ceiling) ≡ true
-unfolding opened inTable
-opened-in-table events h q =
-    let w = opened-for _ (headerAt events) h q in
-    let one = both-true (leb 24 (length events)) _ (w .0) .1 in
-    let two = both-true (eqb (u32At events 12) 24) _ one .1 in
-    ap (λ (k : Header). both (allowedRate (k .rate)) (allowedCeiling (k .ceiling))) (sym (w .1)) ∙ two
+unfolding inTable
+opened-in-table events h q = opened-allowed events h q
 
 -- with buffers of the right lengths `start` never refuses a header that was opened
 pub accepts : (events : List ℕ) (h : Header) (b : Buffers) → opened events ≡ start.Opened h → allLengths fullSlack (geometryOf (h .rate) (h .ceiling)) b ≡ true

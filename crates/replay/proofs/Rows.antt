@@ -11,7 +11,7 @@ use Rattle.log_lines.specs.Lines.{textOf, verdictText}
 use Rattle.log_lines.specs.declared.Line.the-variants.{Replay, Cycle, End, BadHeader, BadEvent, BadTotals}
 use Rattle.log_lines.specs.declared.Verdict.the-variants.{Hold, Move}
 use Rattle.recording.specs.Bytes.{bytes, numberAt}
-use Rattle.recording.specs.Recording.{opened, eventOf, eventAt}
+use Rattle.recording.specs.Recording.{shapeAt, opened, eventOf, eventAt}
 use Rattle.recording.specs.Samples.{samplesIn, samplesOf, admitted, allUsed}
 use Rattle.replay.specs.Words.{cycleLine, cyclesAfter, triggerOf}
 use Rattle.replay.specs.Events.{eventPlayed, cyclePlayed, stepped}
@@ -29,7 +29,7 @@ abbrev pub whole : List ℕ
 whole = header 48000 500 4 0 0 ++ event 6 4800 4700 ++ event 6 4800 4500 ++ event 6 4800 4480 ++ event 5 0 0
 
 pub whole-log : logOf whole [] [] ≡ Replay 48000 500 ∷ Cycle 0 Hold ∷ Cycle 1 Hold ∷ Cycle 2 (Move 4096) ∷ Cycle 3 Hold ∷ End 0 4 ∷ []
-unfolding pick bandsOf sameBands stateRefusal fresh unconfidentCycle edgeCycle jumped outsideBands confirmed landing contradicts escalated outsideCycle interiorCycle judged cycleRefusal cycled numberAt opened eventOf eventAt samplesIn samplesOf admitted allUsed cycleLine cyclesAfter triggerOf eventPlayed cyclePlayed stepped newSession closing linesFrom logOf
+unfolding pick bandsOf sameBands stateRefusal fresh unconfidentCycle edgeCycle jumped outsideBands confirmed landing contradicts escalated outsideCycle interiorCycle judged cycleRefusal cycled numberAt shapeAt opened eventOf eventAt samplesIn samplesOf admitted allUsed cycleLine cyclesAfter triggerOf eventPlayed cyclePlayed stepped newSession closing linesFrom logOf
 whole-log = refl
 
 -- its six lines as they stand there, each with its newline
@@ -51,10 +51,10 @@ no-header = refl
 
 -- one event, of an unknown kind
 pub unknown-kind : logOf (header 48000 500 1 0 0 ++ event 9 0 0) [] [] ≡ Replay 48000 500 ∷ BadEvent 0 ∷ []
-unfolding pick numberAt opened eventOf eventAt stepped linesFrom logOf
+unfolding pick numberAt shapeAt opened eventOf eventAt stepped linesFrom logOf
 unknown-kind = refl
 
 -- no event, and a far sample announced
 pub unused-sample : logOf (header 48000 500 0 1 0) [] [] ≡ Replay 48000 500 ∷ BadTotals ∷ []
-unfolding pick numberAt opened allUsed newSession closing linesFrom logOf
+unfolding pick numberAt shapeAt opened allUsed newSession closing linesFrom logOf
 unused-sample = refl

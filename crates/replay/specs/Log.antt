@@ -12,8 +12,9 @@ use Rattle.tracker.specs.Tracker.{fresh}
 use Rattle.log_lines.specs.Lines.{textOf}
 use Rattle.log_lines.specs.declared.Line.{Line}
 use Rattle.log_lines.specs.declared.Line.the-variants as line
-use Rattle.recording.specs.Recording.{opened, eventAt}
-use Rattle.recording.specs.Samples.{samplesIn, samplesOf, usedUp, allUsed}
+use Rattle.recording.specs.Recording.{offsetOf, opened, eventAt}
+use Rattle.recording.specs.Samples.{width, samplesIn, samplesOf, usedUp, allUsed}
+use Rattle.recording.specs.declared.Form.{Form}
 use Rattle.recording.specs.declared.Header.{Header}
 use Rattle.recording.specs.declared.Start.{Start}
 use Rattle.recording.specs.declared.Start.the-variants as start
@@ -60,13 +61,13 @@ samplesFor i u (entry.Good event) = samplesOf (i .far) (i .near) event (u .far) 
 unfoldable pub closing : Header → Session → Line
 closing h s = pick (allUsed h (s .used)) (line.End (s .frames) (s .cycles)) line.BadTotals
 
--- event number e is in the 16 bytes from 24 + 16 e on
-abbrev pub eventNumber : List ℕ → ℕ → Entry
-eventNumber events e = eventAt events (24 + 16 * e)
+-- event number e is in the 16 bytes from 16 e on behind the header
+abbrev pub eventNumber : Form → List ℕ → ℕ → Entry
+eventNumber form events e = eventAt events (offsetOf form + 16 * e)
 
 -- event number e
 abbrev pub stepAt : Inputs → Header → ℕ → Session → Buffers → Play
-stepAt i h e s b = stepped h (i .lengths) e s b (eventNumber (i .events) e) (samplesFor i (s .used) (eventNumber (i .events) e))
+stepAt i h e s b = stepped h (i .lengths) e s b (eventNumber (h .form) (i .events) e) (samplesFor i (s .used) (eventNumber (h .form) (i .events) e))
 
 -- `left` events from number e on, and what closes the log
 unfoldable pub linesFrom : Inputs → Header → ℕ → ℕ → Session → Buffers → List Line
@@ -75,22 +76,22 @@ linesFrom i h (suc left) e s b =
     let p = stepAt i h e s b in
     p .lines ++ pick (p .ends) [] (linesFrom i h left (e + 1) (p .session) (p .buffers))
 
-abbrev pub started : Inputs → Start → List Line
-started i start.BadHeader = line.BadHeader ∷ []
-started i (start.Opened h) =
+abbrev pub allSamples : Form → List ℕ → List Float
+allSamples form bytes = samplesIn form bytes (length bytes / width form)
+
+abbrev pub inputs : Form → List ℕ → List ℕ → List ℕ → Inputs
+inputs form events far near =
+    record { events = events; far = allSamples form far; near = allSamples form near; lengths = record { far = length far; near = length near } }
+
+abbrev pub started : List ℕ → List ℕ → List ℕ → Start → List Line
+started events far near start.BadHeader = line.BadHeader ∷ []
+started events far near (start.Opened h) =
     line.Replay (h .rate) (h .ceiling)
-    ∷ linesFrom i h (h .events) 0 (newSession (h .rate) (h .ceiling)) (clearBuffers (geometryOf (h .rate) (h .ceiling)))
-
-abbrev pub allSamples : List ℕ → List Float
-allSamples bytes = samplesIn bytes (length bytes / 4)
-
-abbrev pub inputs : List ℕ → List ℕ → List ℕ → Inputs
-inputs events far near =
-    record { events = events; far = allSamples far; near = allSamples near; lengths = record { far = length far; near = length near } }
+    ∷ linesFrom (inputs (h .form) events far near) h (h .events) 0 (newSession (h .rate) (h .ceiling)) (clearBuffers (geometryOf (h .rate) (h .ceiling)))
 
 -- the log of a recording
 unfoldable pub logOf : List ℕ → List ℕ → List ℕ → List Line
-logOf events far near = started (inputs events far near) (opened events)
+logOf events far near = started events far near (opened events)
 
 -- each line ends in one newline
 unfoldable pub logText : List Line → List ℕ

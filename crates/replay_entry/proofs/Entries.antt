@@ -16,7 +16,8 @@ use Rattle.scan.specs.State.{Buffers}
 use Rattle.scan.specs.Calls.{pushedFar, rearmed, discarded, FarPush, Clearing}
 use Rattle.scan.specs.Steps.{withEnvelope, withLagSums}
 use Rattle.log_lines.specs.declared.Line.the-variants as line
-use Rattle.recording.specs.Samples.{samplesIn, supplied, usedUp, admitted}
+use Rattle.recording.specs.Samples.{bytesOf, samplesIn, supplied, usedUp, admitted}
+use Rattle.recording.specs.declared.Form.{Form}
 use Rattle.recording.specs.declared.Header.{Header}
 use Rattle.recording.specs.declared.Admission.{Admission}
 use Rattle.recording.specs.declared.Event.the-variants as event
@@ -41,11 +42,11 @@ midway-some e index zero h = absurd (h refl)
 midway-some e index (suc n) h = refl
 
 -- samples that are at hand are within the total
-pub supply-there : (used total count : ℕ) (p : Piece) → supplyOf used total count p ≡ supply.AtHand → (used + count ≤ total) × (4 * count ≤ length (p .bytes))
+pub supply-there : (form : Form) (used total count : ℕ) (p : Piece) → supplyOf form used total count p ≡ supply.AtHand → (used + count ≤ total) × (bytesOf form count ≤ length (p .bytes))
 unfolding supplyOf
-supply-there used total count p q =
+supply-there form used total count p q =
     let w = both-true _ _ (of-at-hand _ _ q .1) in
-    (leb-true _ _ (w .0), omega (arith, leb-true (4 * (used + count)) (4 * used + length (p .bytes)) (w .1)))
+    (leb-true _ _ (w .0), omega (arith, leb-true (bytesOf form (used + count)) (bytesOf form used + length (p .bytes)) (w .1)))
 
 module _ (h : Header) (n : ℕ) (s : Session) (b : Buffers) (hand : Hand) where
   abbrev bad : Next
@@ -62,23 +63,23 @@ module _ (h : Header) (n : ℕ) (s : Session) (b : Buffers) (hand : Hand) where
     farEntry = entryTurn h n s b hand (entry.Good (event.Far count))
 
     abbrev push : FarPush
-    push = pushedFar fullSlack (s .scan) (b .envelope) (samplesIn (hand .far .bytes) count)
+    push = pushedFar fullSlack (s .scan) (b .envelope) (samplesIn (h .form) (hand .far .bytes) count)
 
     abbrev far : Admission → Next
-    far a = entered n s (FarSamples count) (afterAdmission n s b (event.Far count) (samplesIn (hand .far .bytes) count) a)
+    far a = entered (h .form) n s (FarSamples count) (afterAdmission n s b (event.Far count) (samplesIn (h .form) (hand .far .bytes) count) a)
 
-    pub far-awaited : supplyOf (s .used .far) (h .far) count (hand .far) ≡ supply.Awaited → farEntry ≡ waits n Events s b FarSide
+    pub far-awaited : supplyOf (h .form) (s .used .far) (h .far) count (hand .far) ≡ supply.Awaited → farEntry ≡ waits n Events s b FarSide
     unfolding entryTurn supplyOf
     far-awaited q = pick-true _ _ _ (of-awaited _ _ q)
 
-    pub far-lacking : supplyOf (s .used .far) (h .far) count (hand .far) ≡ supply.Lacking → farEntry ≡ bad
+    pub far-lacking : supplyOf (h .form) (s .used .far) (h .far) count (hand .far) ≡ supply.Lacking → farEntry ≡ bad
     unfolding entryTurn stepped admitted supplyOf
     far-lacking q =
         let w = of-lacking _ _ q in
         pick-false _ _ _ (w .0) ∙ ap far (pick-false _ _ _ (w .1)) ∙ pick-true true _ _ refl
 
-    pub far-pushed : supplyOf (s .used .far) (h .far) count (hand .far) ≡ supply.AtHand → farEntry
-        ≡ next (n + 1) Events (withScan (withUsed s (usedUp (s .used .far + count) (s .used .near))) (push .changed .scan)) (withEnvelope b (push .envelope)) (told (changeLines n (push .changed .answer))) (bytesUsed 16 (4 * count) 0)
+    pub far-pushed : supplyOf (h .form) (s .used .far) (h .far) count (hand .far) ≡ supply.AtHand → farEntry
+        ≡ next (n + 1) Events (withScan (withUsed s (usedUp (s .used .far + count) (s .used .near))) (push .changed .scan)) (withEnvelope b (push .envelope)) (told (changeLines n (push .changed .answer))) (bytesUsed 16 (bytesOf (h .form) count) 0)
     unfolding entryTurn stepped admitted eventPlayed supplyOf
     far-pushed q =
         let w = of-at-hand _ _ q in
@@ -91,19 +92,19 @@ module _ (h : Header) (n : ℕ) (s : Session) (b : Buffers) (hand : Hand) where
     nearEntry = entryTurn h n s b hand (entry.Good (event.Near count first))
 
     abbrev near : Admission → Next
-    near a = entered n s (NearSamples count first) (afterAdmission n s b (event.Near count first) (handed hand (NearSamples count first)) a)
+    near a = entered (h .form) n s (NearSamples count first) (afterAdmission n s b (event.Near count first) (handed (h .form) hand (NearSamples count first)) a)
 
-    pub near-awaited : supplyOf (s .used .near) (h .near) count (hand .near) ≡ supply.Awaited → nearEntry ≡ waits n Events s b NearSide
+    pub near-awaited : supplyOf (h .form) (s .used .near) (h .near) count (hand .near) ≡ supply.Awaited → nearEntry ≡ waits n Events s b NearSide
     unfolding entryTurn supplyOf
     near-awaited q = pick-true _ _ _ (of-awaited _ _ q)
 
-    pub near-lacking : supplyOf (s .used .near) (h .near) count (hand .near) ≡ supply.Lacking → nearEntry ≡ bad
+    pub near-lacking : supplyOf (h .form) (s .used .near) (h .near) count (hand .near) ≡ supply.Lacking → nearEntry ≡ bad
     unfolding entryTurn stepped admitted supplyOf
     near-lacking q =
         let w = of-lacking _ _ q in
         pick-false _ _ _ (w .0) ∙ ap near (pick-false _ _ _ (w .1)) ∙ pick-true true _ _ refl
 
-    pub near-entered : supplyOf (s .used .near) (h .near) count (hand .near) ≡ supply.AtHand
+    pub near-entered : supplyOf (h .form) (s .used .near) (h .near) count (hand .near) ≡ supply.AtHand
         → nearEntry ≡ next (n + 1) (midway n first count) (withUsed s (usedUp (s .used .far) (s .used .near + count))) b Silent (bytesUsed 16 0 0)
     unfolding entryTurn stepped admitted eventPlayed nearPlayed supplyOf
     near-entered q =

@@ -7,6 +7,8 @@ use lib.Dec.{leb, ltb}
 use lib.ListN.{length}
 use borrow.Author.Tests.{le-leb, lt-leb, lt-ltb, le-ltb}
 use Rattle.answers.specs.Pick.{pick, both}
+use Rattle.recording.specs.Samples.{bytesOf}
+use Rattle.recording.specs.declared.Form.{Form}
 use Rattle.replay_stream.specs.Stream.{Piece}
 use Rattle.replay_entry.specs.Supplies.{supplyOf}
 use Rattle.replay_entry.specs.declared.Supply.{Supply}
@@ -17,11 +19,11 @@ by within ended short there = pick (both within (both (not ended) short)) supply
 
 -- ---- forwards, for the code
 
-module _ (used total count : ℕ) (p : Piece) where
+module _ (form : Form) (used total count : ℕ) (p : Piece) where
   abbrev answer : Supply
-  answer = supplyOf used total count p
+  answer = supplyOf form used total count p
 
-  tests : (w s t : Bool) → leb (used + count) total ≡ w → ltb (length (p .bytes)) (4 * count) ≡ s → leb (4 * (used + count)) (4 * used + length (p .bytes)) ≡ t → answer ≡ by w (p .ended) s t
+  tests : (w s t : Bool) → leb (used + count) total ≡ w → ltb (length (p .bytes)) (bytesOf form count) ≡ s → leb (bytesOf form (used + count)) (bytesOf form used + length (p .bytes)) ≡ t → answer ≡ by w (p .ended) s t
   unfolding supplyOf
   tests w s t a b c = rw (a, b, c)
 
@@ -30,20 +32,20 @@ module _ (used total count : ℕ) (p : Piece) where
   passes-total m = tests false _ _ (lt-leb (used + count) total m) refl refl
 
   module _ (within : used + count ≤ total) where
-    pub at-hand : 4 * count ≤ length (p .bytes) → answer ≡ supply.AtHand
+    pub at-hand : bytesOf form count ≤ length (p .bytes) → answer ≡ supply.AtHand
     unfolding pick
     at-hand m =
-        tests true false true (le-leb (used + count) total within) (le-ltb (length (p .bytes)) (4 * count) m) (le-leb (4 * (used + count)) (4 * used + length (p .bytes)) (omega arith))
+        tests true false true (le-leb (used + count) total within) (le-ltb (length (p .bytes)) (bytesOf form count) m) (le-leb (bytesOf form (used + count)) (bytesOf form used + length (p .bytes)) (omega arith))
         ∙ go (p .ended)
       where
         go : (e : Bool) → by true e false true ≡ supply.AtHand
         go true = refl
         go false = refl
 
-    module _ (few : length (p .bytes) < 4 * count) where
+    module _ (few : length (p .bytes) < bytesOf form count) where
       is : (e : Bool) → p .ended ≡ e → answer ≡ by true e true false
       is e q =
-          tests true true false (le-leb (used + count) total within) (lt-ltb (length (p .bytes)) (4 * count) few) (lt-leb (4 * (used + count)) (4 * used + length (p .bytes)) (omega arith))
+          tests true true false (le-leb (used + count) total within) (lt-ltb (length (p .bytes)) (bytesOf form count) few) (lt-leb (bytesOf form (used + count)) (bytesOf form used + length (p .bytes)) (omega arith))
           ∙ ap (λ (x : Bool). by true x true false) q
 
       pub has-ended : p .ended ≡ true → answer ≡ supply.Lacking

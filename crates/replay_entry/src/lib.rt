@@ -5,6 +5,7 @@ use answers::Change;
 use log_lines::Line;
 use recording::Entry;
 use recording::Event;
+use recording::Form;
 use recording::Header;
 use recording::Used;
 use replay::Session;
@@ -29,7 +30,7 @@ ghost use lib.ListN.{length};
 ghost use Rattle.scan.specs.Bins.{fullSlack};
 ghost use Rattle.scan.specs.State.{Buffers};
 ghost use Rattle.scan.specs.Calls.{pushedFar};
-ghost use Rattle.recording.specs.Samples.{samplesIn, usedUp};
+ghost use Rattle.recording.specs.Samples.{bytesOf, samplesIn, usedUp};
 ghost use Rattle.scan.specs.Steps.{withEnvelope};
 ghost use Rattle.scan_score.specs.Observing.{lent};
 ghost use Rattle.log_lines.specs.declared.Line.the-variants as line;
@@ -180,6 +181,7 @@ fn push_whole(scan: Scan, envelope: &mut [f32], samples: &[f32]) -> Changed
 }
 
 fn push_far(
+    form: Form,
     number: u32,
     session: Session,
     count: u32,
@@ -187,19 +189,20 @@ fn push_far(
     samples: &mut [f32],
     envelope: &mut [f32],
 ) -> Turned
-    requires { ⌜ (number < 2 ^ 32 - 1) × Room count (now far) (now samples) × (session .used .far + count < 2 ^ 64) ⌝ }
-    ensures turns { λ r. ⌜ r ≡ turned (number + 1) Events (withScan (withUsed session (usedUp (session .used .far + count) (session .used .near))) (pushedFar fullSlack (session .scan) (now (envelope .entry)) (samplesIn (now (far .entry)) count) .changed .scan)) (told (changeLines number (pushedFar fullSlack (session .scan) (now (envelope .entry)) (samplesIn (now (far .entry)) count) .changed .answer))) (bytesUsed 16 (4 * count) 0) ⌝ }
-    ensures leaves { λ r. ⌜ now (envelope .exit) ≡ pushedFar fullSlack (session .scan) (now (envelope .entry)) (samplesIn (now (far .entry)) count) .envelope ⌝ }
+    requires { ⌜ (number < 2 ^ 32 - 1) × Room form count (now far) (now samples) × (session .used .far + count < 2 ^ 64) ⌝ }
+    ensures turns { λ r. ⌜ r ≡ turned (number + 1) Events (withScan (withUsed session (usedUp (session .used .far + count) (session .used .near))) (pushedFar fullSlack (session .scan) (now (envelope .entry)) (samplesIn form (now (far .entry)) count) .changed .scan)) (told (changeLines number (pushedFar fullSlack (session .scan) (now (envelope .entry)) (samplesIn form (now (far .entry)) count) .changed .answer))) (bytesUsed 16 (bytesOf form count) 0) ⌝ }
+    ensures leaves { λ r. ⌜ now (envelope .exit) ≡ pushedFar fullSlack (session .scan) (now (envelope .entry)) (samplesIn form (now (far .entry)) count) .envelope ⌝ }
 {
     let n = count as usize;
-    replay_near::decode_first(far, n, samples);
+    let size = recording::bytes_of(form, count) as usize;
+    replay_near::decode_first(form, far, n, samples);
     let before = session.scan;
     let change = push_whole(before, envelope, &samples[0..n]);
     let used = Used {
         far: session.used.far + count as u64,
         near: session.used.near,
     };
-    changed(number, session, used, change, 4 * n)
+    changed(number, session, used, change, size)
 }
 
 fn far_turn(
@@ -215,9 +218,10 @@ fn far_turn(
     requires { ⌜ (number < 2 ^ 32 - 1) × (count ≤ 4096) × Holds (now far) (now samples) ⌝ }
     ensures { λ r. ⌜ ((b : Buffers) (events near : Piece) → gives r (withEnvelope b (now (envelope .exit))) ≡ entryTurn header number session (withEnvelope b (now (envelope .entry))) (record { events = events; far = piece (now (far .entry)) ended; near = near }) (entry.Good (event.Far count))) ⌝ }
 {
-    let s = supplies::of(session.used.far, header.far, count, far, ended);
+    let form = header.form;
+    let s = supplies::of(form, session.used.far, header.far, count, far, ended);
     match s {
-        Supply::AtHand => push_far(number, session, count, far, samples, envelope),
+        Supply::AtHand => push_far(form, number, session, count, far, samples, envelope),
         Supply::Awaited => waits(number, session, Input::FarSide),
         Supply::Lacking => bad(number, session),
     }
@@ -265,7 +269,8 @@ fn near_turn(
     requires { ⌜ (number < 2 ^ 32 - 1) × (count ≤ 4096) ⌝ }
     ensures { λ r. ⌜ ((b : Buffers) (events far : Piece) → gives r b ≡ entryTurn header number session b (record { events = events; far = far; near = piece (now (near .entry)) ended }) (entry.Good (event.Near count first))) ⌝ }
 {
-    let s = supplies::of(session.used.near, header.near, count, near, ended);
+    let form = header.form;
+    let s = supplies::of(form, session.used.near, header.near, count, near, ended);
     match s {
         Supply::AtHand => enter_near(number, session, count, first),
         Supply::Awaited => waits(number, session, Input::NearSide),

@@ -1,12 +1,13 @@
 // Whether an event's samples are at hand.
 use crate::Supply;
+use recording::Form;
 ghost use mathlib.Core.Path.{_≡_};
 ghost use lib.ListN.{length};
 ghost use Rattle.replay_stream.specs.Giving.{piece};
 ghost use Rattle.replay_entry.specs.Supplies.{supplyOf};
 
-pub fn of(used: u64, total: u32, count: u32, bytes: &[u8], ended: bool) -> Supply
-    ensures { λ r. ⌜ r ≡ supplyOf used total count (piece (now (bytes .entry)) ended) ⌝ }
+pub fn of(form: Form, used: u64, total: u32, count: u32, bytes: &[u8], ended: bool) -> Supply
+    ensures { λ r. ⌜ r ≡ supplyOf form used total count (piece (now (bytes .entry)) ended) ⌝ }
 {
     let most = total as u64;
     if most < used {
@@ -16,7 +17,7 @@ pub fn of(used: u64, total: u32, count: u32, bytes: &[u8], ended: bool) -> Suppl
     if most < samples {
         return Supply::Lacking;
     }
-    if 4 * count as usize <= bytes.len() {
+    if recording::bytes_of(form, count) as usize <= bytes.len() {
         return Supply::AtHand;
     }
     if ended {

@@ -1,7 +1,5 @@
 // A recording in three open files, replayed: the lines of its log are written to a fourth, or held against a log there. This crate makes the room and opens the recording; `replay_run`
 // goes on from there. It is proved to be safe and to end.
-use pipes::window;
-use pipes::window::Window;
 use recording::Header;
 use recording::Start;
 use replay_close::Outcome;
@@ -13,7 +11,6 @@ use scan_calls::rules;
 ghost use mathlib.Core.Path.{_≡_};
 ghost use Prim.Native.Nat.{_≤_};
 ghost use lib.ListN.{length};
-ghost use Rattle.pipes.specs.Window.{Within};
 ghost use Rattle.replay_inputs.specs.Inputs.{AllWithin};
 ghost use Rattle.replay_sink.specs.Sink.{Fits, FitsAny};
 
@@ -136,15 +133,6 @@ fn opened(header: Header, inputs: Inputs, sink: Sink, watched: bool) -> Outcome
     )
 }
 
-// What stands in the first 24 bytes of the events.
-fn header_in(head: Window, room: &[u8]) -> Start
-    requires { ⌜ (Within head) × (length (now room) ≡ 65536) ⌝ }
-{
-    let at = head.at;
-    let end = head.end;
-    recording::open(&room[at..end])
-}
-
 fn run_in(
     events: i32,
     far: i32,
@@ -157,11 +145,11 @@ fn run_in(
     requires { ⌜ length (now room) ≡ 65536 ⌝ }
 {
     let sink = replay_sink::fresh(goal, watched);
-    let head = window::read_all(replay_inputs::header_window(events, most), room);
+    let head = recording_head::read(events, most.events, room);
     if head.failed {
         return Outcome::Unread(1);
     }
-    match header_in(head, room) {
+    match recording_head::opened(head, room) {
         Start::BadHeader => replay_close::unopened(sink, watched, room),
         Start::Opened(header) => opened(
             header,

@@ -9,7 +9,6 @@ use replay_stream::Ended;
 use replay_stream::Input;
 ghost use mathlib.Core.Path.{_≡_};
 ghost use lib.ListN.{length};
-ghost use Rattle.pipes.specs.Window.{Within};
 ghost use Rattle.replay_inputs.specs.Inputs.{AllWithin, AllPassed, OneRead, WentOn, endedAt};
 
 pub struct Inputs {
@@ -29,27 +28,24 @@ fn least(a: u64, b: u64) -> u64 {
     if a < b { a } else { b }
 }
 
-// No byte past the header is read before the header is known.
-pub fn header_window(events: i32, most: Most) -> Window
-    ensures { λ r. ⌜ Within r ⌝ }
-{
-    window::fresh(events, least(most.events, 24))
-}
-
 // Behind the header no byte past what it announces is read.
 pub fn announced(events: i32, far: i32, near: i32, header: Header, most: Most) -> Inputs
     ensures { λ r. ⌜ AllWithin r ⌝ }
 {
+    let form = header.form;
+    let offset = recording::offset_of(form) as u64;
+    let far_bytes = recording::bytes_of(form, header.far);
+    let near_bytes = recording::bytes_of(form, header.near);
     Inputs {
         events: window::fresh(
             events,
             least(
-                answers::saturating_sub(most.events, 24),
+                answers::saturating_sub(most.events, offset),
                 16 * header.events as u64,
             ),
         ),
-        far: window::fresh(far, least(most.far, 4 * header.far as u64)),
-        near: window::fresh(near, least(most.near, 4 * header.near as u64)),
+        far: window::fresh(far, least(most.far, far_bytes)),
+        near: window::fresh(near, least(most.near, near_bytes)),
     }
 }
 

@@ -7,7 +7,7 @@ use lib.ListN.{drop}
 use Rattle.scan.specs.State.{Buffers}
 use Rattle.log_lines.specs.declared.Line.{Line}
 use Rattle.log_text.proofs.Text.{append-nothing}
-use Rattle.recording.specs.Recording.{opened}
+use Rattle.recording.specs.Recording.{offsetOf, opened, headerLength}
 use Rattle.recording.specs.declared.Header.{Header}
 use Rattle.recording.specs.declared.Start.the-variants as start
 use Rattle.replay.specs.Beginning.{beginning, beginningOf}
@@ -91,12 +91,12 @@ module _ (events far near : List ℕ) where
 
 -- A loop that has begun as a host begins, and has come to the end of the log, was told the log of the recording: of the bytes at hand at first, those that came, and those that were left unread.
 pub log-told : (events far near : List ℕ) {h : Header} {s u : Stream} {cleared d : Buffers} {e f n room e' f' n' room' : List ℕ} {x : Rest} {y : List ℕ} {ls : List Line} (first : Piece) (lent : Buffers) (session : Session) (l : Rest)
-    → Front events first → short 24 first ≡ false → opened (first .bytes) ≡ start.Opened h → beginning (begun.Ready session) cleared ≡ beginningOf h lent → s .place ≡ opens session → s .over ≡ false
-    → Turns h s cleared e f n room x y ls u d e' f' n' room' → Fairly (u .inputs) l → restAt (s .inputs) e f n (behind x l) ≡ rest (drop 24 events) far near → u .over ≡ true → ls ≡ logOf events far near
+    → Front events first → short (headerLength (first .bytes)) first ≡ false → opened (first .bytes) ≡ start.Opened h → beginning (begun.Ready session) cleared ≡ beginningOf h lent → s .place ≡ opens session → s .over ≡ false
+    → Turns h s cleared e f n room x y ls u d e' f' n' room' → Fairly (u .inputs) l → restAt (s .inputs) e f n (behind x l) ≡ rest (drop (offsetOf (h .form)) events) far near → u .over ≡ true → ls ≡ logOf events far near
 log-told events far near {h = h} {s = s} {cleared = cleared} {e = e} {f = f} {n = n} {x = x} {ls = ls} first lent session l front enough header ready place starts turns fair whole ends =
     let q = header-handed events first front enough ∙ header in
     let st = ready-stands events far near h lent cleared session q ready in
     let here = subst (λ (p : Place). turning.StandsAt events far near h p (restAt (s .inputs) e f n (behind x l))) (sym place) (subst (turning.StandsAt events far near h (opens session)) (sym whole) st) in
     let told = loop-tells events far near turns l fair here starts ends in
-    let streamed = subst (λ (p : Place). Streamed h p cleared (rest (drop 24 events) far near) (told .0)) place (subst (λ (r : Rest). Streamed h (s .place) cleared r (told .0)) whole (told .1)) in
+    let streamed = subst (λ (p : Place). Streamed h p cleared (rest (drop (offsetOf (h .form)) events) far near) (told .0)) place (subst (λ (r : Rest). Streamed h (s .place) cleared r (told .0)) whole (told .1)) in
     sym (told .2) ∙ streamed-log events far near (hosts.linesOf (told .0)) (hosts.streams first h lent cleared session (told .0) front enough header ready streamed)

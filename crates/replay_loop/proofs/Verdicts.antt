@@ -34,7 +34,7 @@ use Rattle.log_check.specs.Checked.{checked}
 use Rattle.log_check.specs.Checking.{wrongAt, Checking}
 use Rattle.log_check.specs.Checking as host
 use Rattle.log_check.proofs.Verdicts.{checked-is}
-use Rattle.recording.specs.Recording.{opened}
+use Rattle.recording.specs.Recording.{offsetOf, opened, headerLength}
 use Rattle.recording.specs.declared.Header.{Header}
 use Rattle.recording.specs.declared.Start.the-variants as start
 use Rattle.replay.specs.Beginning.{beginning, beginningOf}
@@ -305,9 +305,9 @@ module _ (events far near : List ℕ) where
 -- A loop that has begun as a host begins, and found something of a log, found what `checked` says of it: of the bytes at hand at first, those that came, and those that were left unread.
 pub verdict-checked : (events far near log : List ℕ) {h : Header} {s u : Stream} {cleared d : Buffers} {e f n room e' f' n' room' : List ℕ} {x : Rest} {y : List ℕ} {ls : List Line} (first : Piece) (lent : Buffers) (session : Session) (l : Rest)
     (z : List ℕ) (v : Apart) (c c'' : Check) (room'' : List ℕ)
-    → Front events first → short 24 first ≡ false → opened (first .bytes) ≡ start.Opened h → beginning (begun.Ready session) cleared ≡ beginningOf h lent → s .place ≡ opens session → s .over ≡ false
+    → Front events first → short (headerLength (first .bytes)) first ≡ false → opened (first .bytes) ≡ start.Opened h → beginning (begun.Ready session) cleared ≡ beginningOf h lent → s .place ≡ opens session → s .over ≡ false
     → s .sink ≡ Checks c → c .line ≡ 1 → c .verdict ≡ verdict.Going → Turns h s cleared e f n room x y ls u d e' f' n' room' → (fin : Finished (u .over) (u .sink) room' (Checks c'') room'')
-    → Fairly (u .inputs) l → (over (c'' .log) ≡ true → z ≡ []) → restAt (s .inputs) e f n (behind x l) ≡ rest (drop 24 events) far near
+    → Fairly (u .inputs) l → (over (c'' .log) ≡ true → z ≡ []) → restAt (s .inputs) e f n (behind x l) ≡ rest (drop (offsetOf (h .form)) events) far near
     → atHand (c .log) room ++ (y ++ (endBy (u .over) (u .sink) room' c'' room'' fin ++ z)) ≡ log
     → c'' .line < 2 ^ 64 - 1 → Found (c'' .verdict) (c'' .line) (atHand (c'' .log) room'' ++ z) v → v ≡ checked events far near log
 verdict-checked events far near log {h = h} {s = s} {u = u} {cleared = cleared} {e = e} {f = f} {n = n} {room = room} {room' = room'} {x = x} {y = y} first lent session l z v c c'' room'' front enough header ready place starts sink one-first going turns fin fair last whole bytes less found =
@@ -319,5 +319,5 @@ verdict-checked events far near log {h = h} {s = s} {u = u} {cleared = cleared} 
     let by-sink = subst (λ (k : Sink). Checking h (s .place) cleared (restAt (s .inputs) e f n (behind x l)) (lineAt k) (logAt k room all) v) sink checking in
     let numbered = subst (λ (k : ℕ). Checking h (s .place) cleared (restAt (s .inputs) e f n (behind x l)) k (atHand (c .log) room ++ all) v) one-first by-sink in
     let rested = subst (λ (r : Rest). Checking h (s .place) cleared r 1 (atHand (c .log) room ++ all) v) whole numbered in
-    let placed = subst (λ (p : Place). Checking h p cleared (rest (drop 24 events) far near) 1 (atHand (c .log) room ++ all) v) place rested in
-    checked-is events far near log v (host.checks v first h lent cleared session front enough header ready (subst (λ (m : List ℕ). Checking h (opens session) cleared (rest (drop 24 events) far near) 1 m v) bytes placed))
+    let placed = subst (λ (p : Place). Checking h p cleared (rest (drop (offsetOf (h .form)) events) far near) 1 (atHand (c .log) room ++ all) v) place rested in
+    checked-is events far near log v (host.checks v first h lent cleared session front enough header ready (subst (λ (m : List ℕ). Checking h (opens session) cleared (rest (drop (offsetOf (h .form)) events) far near) 1 m v) bytes placed))

@@ -6,7 +6,8 @@ use mathlib.Core.List.{List, _++_}
 use lib.Ieee.{Float}
 use lib.ListN.{length, drop}
 use Rattle.scan.specs.State.{Buffers}
-use Rattle.recording.specs.Samples.{samplesIn}
+use Rattle.recording.specs.Samples.{bytesOf, samplesIn}
+use Rattle.recording.specs.declared.Form.{Form}
 use Rattle.replay.specs.Events.{Play}
 use Rattle.replay.specs.declared.Session.{Session}
 use Rattle.replay_stream.specs.Stream.{Cut, told}
@@ -45,15 +46,15 @@ cutsAt r b = record { session = r .session; answer = r .answer; index = r .index
 
 -- ---- the samples of an event, decoded at the start of a buffer
 
-unfoldable pub filled : List ℕ → ℕ → List Float → List Float
-filled bytes n samples = samplesIn bytes n ++ drop n samples
+unfoldable pub filled : Form → List ℕ → ℕ → List Float → List Float
+filled form bytes n samples = samplesIn form bytes n ++ drop n samples
 
 -- so many samples of an event are at hand, and there is room for them
-pub record Room (n : ℕ) (bytes : List ℕ) (samples : List Float) : Type 0 where
-  pub there : 4 * n ≤ length bytes
+pub record Room (form : Form) (n : ℕ) (bytes : List ℕ) (samples : List Float) : Type 0 where
+  pub there : bytesOf form n ≤ length bytes
   pub few : n ≤ 4096
   pub room : n ≤ length samples
 
--- room for every event whose bytes are at hand, for none has more than 4,096 samples
+-- room for every event whose bytes are at hand: none has more than 4,096 samples, and a sample has two bytes or four
 abbrev pub Holds : List ℕ → List Float → Type 0
-Holds bytes samples = min (length bytes) 16384 ≤ 4 * length samples
+Holds bytes samples = min (length bytes) 8192 ≤ 2 * length samples

@@ -1,5 +1,6 @@
 // Near samples up to the next line of the log.
 use log_lines::Line;
+use recording::Form;
 use replay::Session;
 use replay::events;
 use replay::words;
@@ -213,15 +214,16 @@ fn near_line(
 }
 
 // The first n samples that the bytes hold.
-pub fn decode_first(bytes: &[u8], n: usize, samples: &mut [f32])
-    requires { ⌜ Room n (now bytes) (now samples) ⌝ }
-    ensures { λ _. ⌜ now (samples .exit) ≡ filled (now (bytes .entry)) n (now (samples .entry)) ⌝ }
+pub fn decode_first(form: Form, bytes: &[u8], n: usize, samples: &mut [f32])
+    requires { ⌜ Room form n (now bytes) (now samples) ⌝ }
+    ensures { λ _. ⌜ now (samples .exit) ≡ filled form (now (bytes .entry)) n (now (samples .entry)) ⌝ }
 {
-    let count = recording::decode(&bytes[0..4 * n], &mut samples[0..n]);
+    let count = recording::decode(form, bytes, &mut samples[0..n]);
 }
 
 // The samples that a near event has left, up to the next line.
 pub fn near_cut(
+    form: Form,
     event: u32,
     session: Session,
     near: &[u8],
@@ -236,11 +238,11 @@ pub fn near_cut(
     scores: &mut [f64],
     lag_sums: &mut [f64],
 ) -> NearCut
-    requires { ⌜ Room left (now near) (now samples) ⌝ }
-    ensures { λ r. ⌜ cutsAt r (lent (now (envelope .entry)) (now (levels .exit)) (now (window .exit)) (now (prefix .exit)) (now (squares .exit)) (now (scores .exit)) (now («lag_sums» .exit))) ≡ cutTells (nearCut event session (lent (now (envelope .entry)) (now (levels .entry)) (now (window .entry)) (now (prefix .entry)) (now (squares .entry)) (now (scores .entry)) (now («lag_sums» .entry))) (samplesIn (now (near .entry)) left) index) ⌝ }
+    requires { ⌜ Room form left (now near) (now samples) ⌝ }
+    ensures { λ r. ⌜ cutsAt r (lent (now (envelope .entry)) (now (levels .exit)) (now (window .exit)) (now (prefix .exit)) (now (squares .exit)) (now (scores .exit)) (now («lag_sums» .exit))) ≡ cutTells (nearCut event session (lent (now (envelope .entry)) (now (levels .entry)) (now (window .entry)) (now (prefix .entry)) (now (squares .entry)) (now (scores .entry)) (now («lag_sums» .entry))) (samplesIn form (now (near .entry)) left) index) ⌝ }
 {
     let n = left as usize;
-    decode_first(near, n, samples);
+    decode_first(form, near, n, samples);
     near_line(
         event,
         session,

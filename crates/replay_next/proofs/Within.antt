@@ -9,7 +9,7 @@ use borrow.Author.Tests.{ltb-false}
 use Rattle.answers.specs.Pick.{pick-case}
 use Rattle.scan.specs.State.{Buffers}
 use Rattle.recording.specs.Recording.{eventAt}
-use Rattle.recording.specs.Samples.{samplesIn, admitted}
+use Rattle.recording.specs.Samples.{bytesOf, samplesIn, admitted}
 use Rattle.recording.specs.declared.Header.{Header}
 use Rattle.recording.specs.declared.Admission.{Admission}
 use Rattle.recording.specs.declared.Admission.the-variants as admission
@@ -22,6 +22,7 @@ use Rattle.replay_stream.specs.Stream.{Hand, short, Next, nearCut, nearTurn, Ne
 use Rattle.replay_stream.specs.declared.Stage.{Stage}
 use Rattle.replay_stream.specs.declared.Stage.the-variants.{Opening, Events, Midway, Closed}
 use Rattle.replay_stream.specs.declared.Place.{Place}
+use Rattle.recording.proofs.Forms.{bytes-mono}
 use Rattle.replay_stream.specs.declared.Bytes.{Bytes}
 use Rattle.replay_stream.proofs.Entering.{Taken, taken}
 use Rattle.replay_stream.proofs.Turning.{good-whole}
@@ -35,18 +36,18 @@ module _ (h : Header) (hand : Hand) where
   abbrev W : Next → Type 0
   W t = Within hand (t .used)
 
-  need-within : (need : Need) → 16 ≤ length (hand .events .bytes) → usedFor need .far ≤ length (hand .far .bytes) → Within hand (usedFor need)
+  need-within : (need : Need) → 16 ≤ length (hand .events .bytes) → usedFor (h .form) need .far ≤ length (hand .far .bytes) → Within hand (usedFor (h .form) need)
   need-within NoSamples m f = record { events = m; far = omega arith; near = omega arith }
   need-within (FarSamples count) m f = record { events = m; far = f; near = omega arith }
   need-within (NearSamples count first) m f = record { events = m; far = omega arith; near = omega arith }
 
   -- a play that ends uses nothing, and one that goes on was admitted
-  event-within : (n : ℕ) (s : Session) (b : Buffers) (k : Event) → 16 ≤ length (hand .events .bytes) → (a : Admission) → admitted h (seen (s .used) hand) (s .used) k ≡ a
-      → W (entered n s (needOf (entry.Good k)) (afterAdmission n s b k (handed hand (needOf (entry.Good k))) a))
+  event-within : (n : ℕ) (s : Session) (b : Buffers) (k : Event) → 16 ≤ length (hand .events .bytes) → (a : Admission) → admitted h (seen (h .form) (s .used) hand) (s .used) k ≡ a
+      → W (entered (h .form) n s (needOf (entry.Good k)) (afterAdmission n s b k (handed (h .form) hand (needOf (entry.Good k))) a))
   event-within n s b k m admission.Lacking q =
       pick-case W true _ _ (λ t. record { events = omega arith; far = omega arith; near = omega arith }) (λ t. absurd (true≢false t))
   event-within n s b k m (admission.Enough u) q =
-      let p = afterAdmission n s b k (handed hand (needOf (entry.Good k))) (admission.Enough u) in
+      let p = afterAdmission n s b k (handed (h .form) hand (needOf (entry.Good k))) (admission.Enough u) in
       pick-case W (p .ends) _ _
       (λ t. record { events = omega arith; far = omega arith; near = omega arith })
       (λ t. need-within (needOf (entry.Good k)) m (taken n h (s .used) u hand k q .far-there))
@@ -60,7 +61,7 @@ module _ (h : Header) (hand : Hand) where
   entry-within n s b (entry.Good k) m =
       pick-case W (awaits h (s .used) hand (needOf (entry.Good k))) _ _
       (λ w. record { events = omega arith; far = omega arith; near = omega arith })
-      (λ w. event-within n s b k (m k refl) (admitted h (seen (s .used) hand) (s .used) k) refl)
+      (λ w. event-within n s b k (m k refl) (admitted h (seen (h .form) (s .used) hand) (s .used) k) refl)
 
   stage-within : (n : ℕ) (stage : Stage) (s : Session) (b : Buffers) → W (turnAt h n stage s b hand)
   unfolding nearTurn
@@ -72,9 +73,9 @@ module _ (h : Header) (hand : Hand) where
       (λ w. entry-within n s b (eventAt (hand .events .bytes) 0) (good-whole (hand .events .bytes))))
       (λ m. record { events = omega arith; far = omega arith; near = omega arith })
   stage-within n (Midway e index left) s b =
-      pick-case W (ltb (min (length (hand .near .bytes)) 16384) (4 * left)) _ _
+      pick-case W (ltb (min (length (hand .near .bytes)) (bytesOf (h .form) 4096)) (bytesOf (h .form) left)) _ _
       (λ w. record { events = omega arith; far = omega arith; near = omega arith })
-      (λ w. record { events = omega arith; far = omega arith; near = omega (arith, ltb-false (min (length (hand .near .bytes)) 16384) (4 * left) w) })
+      (λ w. record { events = omega arith; far = omega arith; near = omega (arith, ltb-false (min (length (hand .near .bytes)) (bytesOf (h .form) 4096)) (bytesOf (h .form) left) w, bytes-mono (h .form) (left - length (nearCut e s b (samplesIn (h .form) (hand .near .bytes) left) index .left)) left (omega arith)) })
   stage-within n Closed s b = record { events = omega arith; far = omega arith; near = omega arith }
 
   pub turn-within : (p : Place) (b : Buffers) → Within hand (turn h p b hand .used)

@@ -11,7 +11,8 @@ use borrow.Author.Tests.{ltb-false, le-ltb}
 use Rattle.answers.specs.Pick.{pick, both, pick-true, pick-false, pick-case}
 use Rattle.scan.specs.State.{Buffers}
 use Rattle.recording.specs.Recording.{eventAt}
-use Rattle.recording.specs.Samples.{admitted}
+use Rattle.recording.specs.Samples.{bytesOf, admitted}
+use Rattle.recording.specs.declared.Form.{Form}
 use Rattle.recording.specs.declared.Header.{Header}
 use Rattle.recording.specs.declared.Used.{Used}
 use Rattle.recording.specs.declared.Admission.{Admission}
@@ -19,6 +20,7 @@ use Rattle.recording.specs.declared.Admission.the-variants as admission
 use Rattle.recording.specs.declared.Event.{Event}
 use Rattle.recording.specs.declared.Entry.{Entry}
 use Rattle.recording.specs.declared.Entry.the-variants as entry
+use Rattle.recording.proofs.Forms.{bytes-mono}
 use Rattle.replay.specs.Events.{Play, afterAdmission, stepped}
 use Rattle.replay.specs.Log.{closing}
 use Rattle.replay.specs.declared.Session.{Session}
@@ -43,9 +45,9 @@ Settled a = (i : Input) → a ≡ Wants i → ⊥
 pub silent-settled : (a : Answer) → silent a ≡ true → Settled a
 silent-settled a q i e = false≢true (ap silent (sym e) ∙ q)
 
-never-awaited : (used total count : ℕ) (left : List ℕ) → awaited used total count (last left) ≡ false
+never-awaited : (form : Form) (used total count : ℕ) (left : List ℕ) → awaited form used total count (last left) ≡ false
 unfolding pick
-never-awaited used total count left = go (leb (used + count) total)
+never-awaited form used total count left = go (leb (used + count) total)
   where
     go : (t : Bool) → both t false ≡ false
     go true = refl
@@ -53,28 +55,28 @@ never-awaited used total count left = go (leb (used + count) total)
 
 none-awaited : (h : Header) (u : Used) (r : Rest) (need : Need) → awaits h u (wholeHand r) need ≡ false
 none-awaited h u r NoSamples = refl
-none-awaited h u r (FarSamples count) = never-awaited (u .far) (h .far) count (r .far)
-none-awaited h u r (NearSamples count first) = never-awaited (u .near) (h .near) count (r .near)
+none-awaited h u r (FarSamples count) = never-awaited (h .form) (u .far) (h .far) count (r .far)
+none-awaited h u r (NearSamples count first) = never-awaited (h .form) (u .near) (h .near) count (r .near)
 
 module _ (events far near : List ℕ) (h : Header) where
   -- ---- an event
 
-  module _ (n : ℕ) (s : Session) (b : Buffers) (r : Rest) (hand : Hand) (st : Stands events far near n Events (s .used) r) (fair : FairHand r hand) where
-    near-at : Behind near (4 * s .used .near) (r .near)
-    near-at = let e : st .passed ≡ 4 * s .used .near = omega (arith, st .partly) in rw e at (st .nears)
+  module _ (n : ℕ) (s : Session) (b : Buffers) (r : Rest) (hand : Hand) (st : Stands (h .form) events far near n Events (s .used) r) (fair : FairHand r hand) where
+    near-at : Behind near (bytesOf (h .form) (s .used .near)) (r .near)
+    near-at = let e : st .passed ≡ bytesOf (h .form) (s .used .near) = omega (arith, st .partly) in rw e at (st .nears)
 
-    same-handed : (u : Used) (need : Need) → Taken n (s .used) u hand need → handed hand need ≡ handed (wholeHand r) need
+    same-handed : (u : Used) (need : Need) → Taken (h .form) n (s .used) u hand need → handed (h .form) hand need ≡ handed (h .form) (wholeHand r) need
     same-handed u NoSamples t = refl
-    same-handed u (FarSamples count) t = sym (samples-handed (r .far) (hand .far) (fair .far) count (t .far-there))
+    same-handed u (FarSamples count) t = sym (samples-handed (r .far) (hand .far) (fair .far) (h .form) count (t .far-there))
     same-handed u (NearSamples count first) t = refl
 
-    same-play : (k : Event) (a : Admission) → admitted h (seen (s .used) hand) (s .used) k ≡ a
-        → afterAdmission n s b k (handed hand (needOf (entry.Good k))) a ≡ afterAdmission n s b k (handed (wholeHand r) (needOf (entry.Good k))) a
+    same-play : (k : Event) (a : Admission) → admitted h (seen (h .form) (s .used) hand) (s .used) k ≡ a
+        → afterAdmission n s b k (handed (h .form) hand (needOf (entry.Good k))) a ≡ afterAdmission n s b k (handed (h .form) (wholeHand r) (needOf (entry.Good k))) a
     same-play k admission.Lacking q = refl
     same-play k (admission.Enough u) q = ap (λ (xs : List Float). afterAdmission n s b k xs (admission.Enough u)) (same-handed u (needOf (entry.Good k)) (taken n h (s .used) u hand k q))
 
     abbrev steps : Hand → Entry → Play
-    steps g k = stepped h (seen (s .used) g) n s b k (handed g (needOf k))
+    steps g k = stepped h (seen (h .form) (s .used) g) n s b k (handed (h .form) g (needOf k))
 
     same-step : (k : Entry) → awaits h (s .used) hand (needOf k) ≡ false → steps hand k ≡ steps (wholeHand r) k
     unfolding stepped
@@ -83,15 +85,15 @@ module _ (events far near : List ℕ) (h : Header) where
         let need = needOf (entry.Good k) in
         let one = same-admission h far near (s .used) r hand (st .fars) near-at fair k f in
         let two = same-admission h far near (s .used) r (wholeHand r) (st .fars) near-at (whole-fair r) k (none-awaited h (s .used) r need) in
-        same-play k (admitted h (seen (s .used) hand) (s .used) k) refl
-        ∙ ap (afterAdmission n s b k (handed (wholeHand r) need)) (one ∙ sym two)
+        same-play k (admitted h (seen (h .form) (s .used) hand) (s .used) k) refl
+        ∙ ap (afterAdmission n s b k (handed (h .form) (wholeHand r) need)) (one ∙ sym two)
 
     same-entry : (k : Entry) → Settled (entryTurn h n s b hand k .answer) → entryTurn h n s b hand k ≡ entryTurn h n s b (wholeHand r) k
     unfolding entryTurn
     same-entry k =
         pick-case (λ (t : Next). Settled (t .answer) → t ≡ entryTurn h n s b (wholeHand r) k) (awaits h (s .used) hand (needOf k)) _ _
         (λ f settled. absurd (settled (sideOf (needOf k)) refl))
-        (λ f settled. ap (entered n s (needOf k)) (same-step k f) ∙ sym (pick-false _ _ _ (none-awaited h (s .used) r (needOf k))))
+        (λ f settled. ap (entered (h .form) n s (needOf k)) (same-step k f) ∙ sym (pick-false _ _ _ (none-awaited h (s .used) r (needOf k))))
 
     same-events : Settled (turnAt h n Events s b hand .answer) → turnAt h n Events s b hand ≡ turnAt h n Events s b (wholeHand r)
     unfolding pick
@@ -110,23 +112,23 @@ module _ (events far near : List ℕ) (h : Header) where
 
   -- ---- a near event left midway
 
-  same-midway : (n e index left : ℕ) (s : Session) (b : Buffers) (r : Rest) (hand : Hand) → Stands events far near n (Midway e index left) (s .used) r → FairHand r hand
+  same-midway : (n e index left : ℕ) (s : Session) (b : Buffers) (r : Rest) (hand : Hand) → Stands (h .form) events far near n (Midway e index left) (s .used) r → FairHand r hand
       → Settled (turnAt h n (Midway e index left) s b hand .answer) → turnAt h n (Midway e index left) s b hand ≡ turnAt h n (Midway e index left) s b (wholeHand r)
   unfolding nearTurn
   same-midway n e index left s b r hand st fair =
-      pick-case (λ (t : Next). Settled (t .answer) → t ≡ turnAt h n (Midway e index left) s b (wholeHand r)) (ltb (min (length (hand .near .bytes)) 16384) (4 * left)) _ _
+      pick-case (λ (t : Next). Settled (t .answer) → t ≡ turnAt h n (Midway e index left) s b (wholeHand r)) (ltb (min (length (hand .near .bytes)) (bytesOf (h .form) 4096)) (bytesOf (h .form) left)) _ _
       (λ w settled. absurd (settled NearSide refl))
-      (λ w settled. ap (λ (xs : List Float). played xs) (sym (samples-handed (r .near) (hand .near) (fair .near) left (omega (arith, ltb-false (min (length (hand .near .bytes)) 16384) (4 * left) w))))
-      ∙ sym (pick-false _ _ _ (le-ltb (min (length (r .near)) 16384) (4 * left) (omega (arith, st .there, st .few)))))
+      (λ w settled. ap (λ (xs : List Float). played xs) (sym (samples-handed (r .near) (hand .near) (fair .near) (h .form) left (omega (arith, ltb-false (min (length (hand .near .bytes)) (bytesOf (h .form) 4096)) (bytesOf (h .form) left) w))))
+      ∙ sym (pick-false _ _ _ (le-ltb (min (length (r .near)) (bytesOf (h .form) 4096)) (bytesOf (h .form) left) (omega (arith, st .there, bytes-mono (h .form) left 4096 (st .few))))))
     where
       played : List Float → Next
       played xs =
           let c = nearCut e s b xs index in
-          next n (midway e (c .index) (length (c .left))) (c .session) (c .buffers) (told (c .lines)) (bytesUsed 0 0 (4 * (left - length (c .left))))
+          next n (midway e (c .index) (length (c .left))) (c .session) (c .buffers) (told (c .lines)) (bytesUsed 0 0 (bytesOf (h .form) (left - length (c .left))))
 
   -- ---- any turn, and turn behind turn
 
-  same-stage : (n : ℕ) (stage : Stage) (s : Session) (b : Buffers) (r : Rest) (hand : Hand) → Stands events far near n stage (s .used) r → FairHand r hand
+  same-stage : (n : ℕ) (stage : Stage) (s : Session) (b : Buffers) (r : Rest) (hand : Hand) → Stands (h .form) events far near n stage (s .used) r → FairHand r hand
       → Settled (turnAt h n stage s b hand .answer) → turnAt h n stage s b hand ≡ turnAt h n stage s b (wholeHand r)
   same-stage n Opening s b r hand st fair = λ settled. refl
   same-stage n Events s b r hand st fair = same-events n s b r hand st fair

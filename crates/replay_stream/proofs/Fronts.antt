@@ -12,49 +12,52 @@ use borrow.Author.Tests.{le-leb, lt-leb, ltb-false}
 use Rattle.answers.specs.Pick.{pick, both, pick-true, pick-false}
 use Rattle.floats.proofs.Compare.{le-or-lt}
 use Rattle.recording.specs.Bytes.{numberAt}
-use Rattle.recording.specs.Recording.{opened, eventAt}
-use Rattle.recording.specs.Samples.{samplesIn, sampleAt, part}
+use Rattle.recording.specs.Recording.{opened, headerLength, eventAt}
+use Rattle.recording.specs.Samples.{width, bytesOf, samplesIn, sampleAt, part}
+use Rattle.recording.specs.declared.Form.{Form}
 use Rattle.recording.proofs.Theorems.{event-after, event-within, samples-within, header-within}
+use Rattle.recording.proofs.Forms.{bytes-count}
 use Rattle.replay.specs.Log.{allSamples}
 use Rattle.replay_stream.specs.Stream.{Piece, short}
 use Rattle.replay_stream.specs.Hosts.{Front}
 
 -- ---- samples
 
-pub samples-length : (s : List ℕ) (n : ℕ) → length (samplesIn s n) ≡ n
+pub samples-length : (form : Form) (s : List ℕ) (n : ℕ) → length (samplesIn form s n) ≡ n
 unfolding samplesIn
-samples-length s zero = refl
-samples-length s (suc n) = omega (arith, length-append (samplesIn s n) (sampleAt s n ∷ []), samples-length s n)
+samples-length form s zero = refl
+samples-length form s (suc n) = omega (arith, length-append (samplesIn form s n) (sampleAt form s n ∷ []), samples-length form s n)
 
-sample-later : (s : List ℕ) (u m : ℕ) → sampleAt s (u + m) ≡ sampleAt (drop (4 * u) s) m
+sample-later : (form : Form) (s : List ℕ) (u m : ℕ) → sampleAt form s (u + m) ≡ sampleAt form (drop (bytesOf form u) s) m
 unfolding numberAt
-sample-later s u m =
-    let e : 4 * (u + m) ≡ 4 * u + 4 * m = omega arith in
-    rw (e, drop-drop (4 * m) (4 * u) s)
+sample-later form s u m =
+    let e : bytesOf form (u + m) ≡ bytesOf form u + bytesOf form m = omega arith in
+    rw (e, drop-drop (bytesOf form m) (bytesOf form u) s)
 
 -- so many samples, and the ones behind them
-pub samples-split : (s : List ℕ) (u m : ℕ) → samplesIn s (u + m) ≡ samplesIn s u ++ samplesIn (drop (4 * u) s) m
+pub samples-split : (form : Form) (s : List ℕ) (u m : ℕ) → samplesIn form s (u + m) ≡ samplesIn form s u ++ samplesIn form (drop (bytesOf form u) s) m
 unfolding samplesIn
-samples-split s u zero = let e : u + zero ≡ u = omega arith in rw (e, append-nil)
-samples-split s u (suc m) =
+samples-split form s u zero = let e : u + zero ≡ u = omega arith in rw (e, append-nil)
+samples-split form s u (suc m) =
     let e : u + suc m ≡ suc (u + m) = omega arith in
-    rw (e, samples-split s u m, sample-later s u m) (append-assoc (samplesIn s u) (samplesIn (drop (4 * u) s) m) (sampleAt (drop (4 * u) s) m ∷ []))
+    rw (e, samples-split form s u m, sample-later form s u m) (append-assoc (samplesIn form s u) (samplesIn form (drop (bytesOf form u) s) m) (sampleAt form (drop (bytesOf form u) s) m ∷ []))
 
-pub samples-behind : (s : List ℕ) (u m : ℕ) → drop u (samplesIn s (u + m)) ≡ samplesIn (drop (4 * u) s) m
-samples-behind s u m = ap (drop u) (samples-split s u m) ∙ drop-at (samplesIn s u) (samplesIn (drop (4 * u) s) m) u (samples-length s u)
+pub samples-behind : (form : Form) (s : List ℕ) (u m : ℕ) → drop u (samplesIn form s (u + m)) ≡ samplesIn form (drop (bytesOf form u) s) m
+samples-behind form s u m = ap (drop u) (samples-split form s u m) ∙ drop-at (samplesIn form s u) (samplesIn form (drop (bytesOf form u) s) m) u (samples-length form s u)
 
 -- a part of all samples, from the bytes
-pub part-is : (s : List ℕ) (u c : ℕ) → 4 * (u + c) ≤ length s → part (allSamples s) u c ≡ samplesIn (drop (4 * u) s) c
+pub part-is : (form : Form) (s : List ℕ) (u c : ℕ) → bytesOf form (u + c) ≤ length s → part (allSamples form s) u c ≡ samplesIn form (drop (bytesOf form u) s) c
 unfolding part
-part-is s u c h =
-    let n = length s / 4 in
+part-is form s u c h =
+    let n = length s / width form in
     let r = n - (u + c) in
+    let held = bytes-count form (u + c) (length s) h in
     let whole : n ≡ u + (c + r) = omega arith in
-    let there : u + c ≤ length (allSamples s) = omega (arith, samples-length s n) in
-    let behind : drop u (allSamples s) ≡ samplesIn (drop (4 * u) s) (c + r) = ap (λ (k : ℕ). drop u (samplesIn s k)) whole ∙ samples-behind s u (c + r) in
-    pick-true (leb (u + c) (length (allSamples s))) (take c (drop u (allSamples s))) [] (le-leb (u + c) (length (allSamples s)) there)
-    ∙ ap (take c) (behind ∙ samples-split (drop (4 * u) s) c r)
-    ∙ take-at (samplesIn (drop (4 * u) s) c) (samplesIn (drop (4 * c) (drop (4 * u) s)) r) c (samples-length (drop (4 * u) s) c)
+    let there : u + c ≤ length (allSamples form s) = omega (arith, samples-length form s n) in
+    let behind : drop u (allSamples form s) ≡ samplesIn form (drop (bytesOf form u) s) (c + r) = ap (λ (k : ℕ). drop u (samplesIn form s k)) whole ∙ samples-behind form s u (c + r) in
+    pick-true (leb (u + c) (length (allSamples form s))) (take c (drop u (allSamples form s))) [] (le-leb (u + c) (length (allSamples form s)) there)
+    ∙ ap (take c) (behind ∙ samples-split form (drop (bytesOf form u) s) c r)
+    ∙ take-at (samplesIn form (drop (bytesOf form u) s) c) (samplesIn form (drop (bytesOf form c) (drop (bytesOf form u) s)) r) c (samples-length form (drop (bytesOf form u) s) c)
 
 -- ---- what is left behind the bytes that were used
 
@@ -113,14 +116,14 @@ module _ (left : List ℕ) (p : Piece) (f : Front left p) where
     | inr all ↦ ap (λ (t : List ℕ). eventAt t 0) all
   ]
 
-  pub header-handed : short 24 p ≡ false → opened left ≡ opened (p .bytes)
-  header-handed e = elim (there-or-all 24 e) [
+  pub header-handed : short (headerLength (p .bytes)) p ≡ false → opened left ≡ opened (p .bytes)
+  header-handed e = elim (there-or-all (headerLength (p .bytes)) e) [
     | inl there ↦ ap opened (f .joins) ∙ header-within (p .bytes) (f .later) there
     | inr all ↦ ap opened all
   ]
 
-  pub samples-handed : (n : ℕ) → 4 * n ≤ length (p .bytes) → samplesIn left n ≡ samplesIn (p .bytes) n
-  samples-handed n h = ap (λ (t : List ℕ). samplesIn t n) (f .joins) ∙ samples-within (p .bytes) (f .later) n h
+  pub samples-handed : (form : Form) (n : ℕ) → bytesOf form n ≤ length (p .bytes) → samplesIn form left n ≡ samplesIn form (p .bytes) n
+  samples-handed form n h = ap (λ (t : List ℕ). samplesIn form t n) (f .joins) ∙ samples-within form (p .bytes) (f .later) n h
 
   -- what is left behind used bytes has what is at hand behind them in front
   pub front-past : (k : ℕ) → k ≤ length (p .bytes) → Front (drop k left) (record { bytes = drop k (p .bytes); ended = p .ended })

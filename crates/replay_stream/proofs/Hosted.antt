@@ -12,7 +12,8 @@ use Rattle.scan.specs.declared.Geometry.{Geometry}
 use Rattle.scan.proofs.Laws.{both-and, length-zeros}
 use Rattle.log_lines.specs.declared.Line.{Line}
 use Rattle.log_lines.specs.declared.Line.the-variants as line
-use Rattle.recording.specs.Recording.{opened}
+use Rattle.recording.specs.Recording.{offsetOf, opened, headerLength}
+use Rattle.recording.proofs.Forms.{opened-whole}
 use Rattle.recording.specs.declared.Header.{Header}
 use Rattle.recording.specs.declared.Start.{Start}
 use Rattle.recording.specs.declared.Start.the-variants as start
@@ -22,7 +23,7 @@ use Rattle.replay_stream.specs.Stream.{Piece, short, Input, Entries, Far
 use Rattle.replay_stream.specs.Hosts.{Rest, rest, Front, linesOf, opens, Streams, unopened, streams, plenty, pieceOf}
 use Rattle.replay_stream.specs.Notes.{wholeHand, notedOf}
 use Rattle.replay_stream.proofs.Fronts.{header-handed}
-use Rattle.replay_stream.proofs.Whole.{opened-whole, start-stands, opened-log, streamed-log}
+use Rattle.replay_stream.proofs.Whole.{start-stands, opened-log, streamed-log}
 use Rattle.replay_stream.proofs.Patient.{Patience, patient-ends}
 use Rattle.replay_stream.proofs.Alike.{whole-fair}
 use Rattle.replay_stream.proofs.Noting.{streamed-noted}
@@ -38,14 +39,14 @@ clear-fits g =
     (both-and _ _ (eq-eqb _ (lags g) (length-zeros (lags g))) (eq-eqb _ (lags g) (length-zeros (lags g))))))))
 
 -- a patient host, whatever pieces it hands, comes to the end
-module _ (host : Patience) (events far near : List ℕ) (first : Piece) (f : Front events first) (w : short 24 first ≡ false) where
+module _ (host : Patience) (events far near : List ℕ) (first : Piece) (f : Front events first) (w : short (headerLength (first .bytes)) first ≡ false) where
   some-lines : (o : Start) → opened events ≡ o → (ls : List Line) × Streams events far near ls
   some-lines start.BadHeader q = (line.BadHeader ∷ [], unopened first f w (sym (header-handed events first f w) ∙ q))
   some-lines (start.Opened h) q =
       let g = geometryOf (h .rate) (h .ceiling) in
       let s = newSession (h .rate) (h .ceiling) in
       let b = clearBuffers g in
-      let r = rest (drop 24 events) far near in
+      let r = rest (drop (offsetOf (h .form)) events) far near in
       let end = patient-ends events far near h host (opens s) b r (start-stands events far near h (opened-whole events h q)) in
       (linesOf (end .0), streams first h b b s (end .0) f w (sym (header-handed events first f w) ∙ q) (sym (accepts events h b q (clear-fits g))) (end .1))
 
@@ -76,7 +77,7 @@ noted-log events far near h q =
     let g = geometryOf (h .rate) (h .ceiling) in
     let s = newSession (h .rate) (h .ceiling) in
     let b = clearBuffers g in
-    let r = rest (drop 24 events) far near in
+    let r = rest (drop (offsetOf (h .form)) events) far near in
     let ready = sym (accepts events h b q (clear-fits g)) in
     let end = patient-ends events far near h all-at-once (opens s) b r (start-stands events far near h (opened-whole events h q)) in
     ap linesOf (sym (streamed-noted events far near h b b s (end .0) q ready (end .1))) ∙ opened-log events far near h b b s (end .0) q ready (end .1)

@@ -7,7 +7,7 @@ use lib.ListN.{length, drop}
 use Rattle.answers.specs.Pick.{pick-case}
 use Rattle.scan.specs.State.{Buffers}
 use Rattle.log_lines.specs.declared.Line.{Line}
-use Rattle.recording.specs.Recording.{opened}
+use Rattle.recording.specs.Recording.{offsetOf, opened}
 use Rattle.recording.specs.declared.Header.{Header}
 use Rattle.recording.specs.declared.Start.the-variants as start
 use Rattle.replay.specs.Beginning.{beginning, beginningOf}
@@ -120,10 +120,10 @@ as-many-lines (t ∷ ts) = ap suc (as-many-lines ts)
 
 -- What any host notes is `notedOf` of the recording.
 pub streamed-noted : (events far near : List ℕ) (h : Header) (lent cleared : Buffers) (s : Session) (ts : List Noted) → opened events ≡ start.Opened h
-    → beginning (begun.Ready s) cleared ≡ beginningOf h lent → Streamed h (opens s) cleared (rest (drop 24 events) far near) ts → ts ≡ notedOf h events far near
+    → beginning (begun.Ready s) cleared ≡ beginningOf h lent → Streamed h (opens s) cleared (rest (drop (offsetOf (h .form)) events) far near) ts → ts ≡ notedOf h events far near
 unfolding notedOf
 streamed-noted events far near h lent cleared s ts q ready x =
-    let r = rest (drop 24 events) far near in
+    let r = rest (drop (offsetOf (h .form)) events) far near in
     let k = length (logOf events far near) in
     let is = ready-is h lent cleared s ready in
     let few : length ts ≤ k = omega (arith, as-many-lines ts, ap length (opened-log events far near h lent cleared s ts q ready x)) in

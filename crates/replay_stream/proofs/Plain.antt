@@ -16,6 +16,7 @@ use Rattle.scan.specs.declared.Scoring.the-variants as scoring
 use Rattle.scan.specs.Bins.{fullSlack}
 use Rattle.scan.specs.Steps.{withLevels}
 use Rattle.log_lines.specs.declared.Line.{Line}
+use Rattle.recording.specs.declared.Form.{Form}
 use Rattle.recording.specs.declared.Used.{Used}
 use Rattle.recording.specs.declared.Event.{Event}
 use Rattle.recording.specs.declared.Event.the-variants as event
@@ -70,8 +71,8 @@ unfolding changeLines
 change-one e (change.Refused number) = refl
 change-one e change.Done = refl
 
-module _ (e : ℕ) (s : Session) (b : Buffers) (hand : Hand) where
-  pub event-plain : (k : Event) → Plain (eventPlayed e s b k (handed hand (needOf (entry.Good k)))) (s .used)
+module _ (form : Form) (e : ℕ) (s : Session) (b : Buffers) (hand : Hand) where
+  pub event-plain : (k : Event) → Plain (eventPlayed e s b k (handed form hand (needOf (entry.Good k)))) (s .used)
   unfolding eventPlayed nearPlayed cyclePlayed seamPlayed
   event-plain (event.Far count) = record { one = change-one e _; keeps = refl }
   event-plain (event.Near count first) = record { one = refl; keeps = refl }

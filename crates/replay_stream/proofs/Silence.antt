@@ -12,7 +12,7 @@ use Rattle.answers.specs.Pick.{pick-case}
 use Rattle.scan.specs.State.{Buffers}
 use Rattle.log_lines.specs.declared.Line.{Line}
 use Rattle.recording.specs.Recording.{eventAt}
-use Rattle.recording.specs.Samples.{samplesIn}
+use Rattle.recording.specs.Samples.{bytesOf, samplesIn}
 use Rattle.recording.specs.declared.Header.{Header}
 use Rattle.recording.specs.declared.Entry.{Entry}
 use Rattle.replay.specs.Events.{stepped}
@@ -45,17 +45,17 @@ module _ (h : Header) where
   entry-nearer : (n : ℕ) (s : Session) (b : Buffers) (hand : Hand) (k : Entry) → n < h .events → Nearer n Events (entryTurn h n s b hand k)
   unfolding entryTurn
   entry-nearer n s b hand k more =
-      let p = stepped h (seen (s .used) hand) n s b k (handed hand (needOf k)) in
+      let p = stepped h (seen (h .form) (s .used) hand) n s b k (handed (h .form) hand (needOf k)) in
       pick-case (Nearer n Events) (awaits h (s .used) hand (needOf k)) _ _
       (λ w q. absurd (false≢true q))
       (λ w. pick-case (Nearer n Events) (p .ends) _ _
       (λ e q. omega arith)
       (λ e q. omega (arith, stage-near h (n + 1) n (needOf k))))
 
-  near-nearer : (n e index left : ℕ) (s : Session) (b : Buffers) (hand : Hand) → Nearer n (Midway e index left) (nearTurn n e index left s b hand)
+  near-nearer : (n e index left : ℕ) (s : Session) (b : Buffers) (hand : Hand) → Nearer n (Midway e index left) (nearTurn (h .form) n e index left s b hand)
   unfolding nearTurn
   near-nearer n e index left s b hand q =
-      let xs = samplesIn (hand .near .bytes) left in
+      let xs = samplesIn (h .form) (hand .near .bytes) left in
       let c = nearCut e s b xs index in
       let z = cuts e s b xs index .stops (told-none (c .lines) q) in
       subst (λ (ys : List Float). toGo h n (midway e (c .index) (length ys)) < 2 * (h .events - n) + 1) (sym z) (omega arith)
@@ -67,7 +67,7 @@ module _ (h : Header) where
       (λ m. pick-case (Nearer n Events) (short 16 (hand .events)) _ _ (λ w q. absurd (false≢true q)) (λ w. entry-nearer n s b hand (eventAt (hand .events .bytes) 0) (ltb-true n (h .events) m)))
       (λ m q. absurd (false≢true q))
   stage-nearer n (Midway e index left) s b hand =
-      pick-case (Nearer n (Midway e index left)) (ltb (min (length (hand .near .bytes)) 16384) (4 * left)) _ _ (λ w q. absurd (false≢true q)) (λ w. near-nearer n e index left s b hand)
+      pick-case (Nearer n (Midway e index left)) (ltb (min (length (hand .near .bytes)) (bytesOf (h .form) 4096)) (bytesOf (h .form) left)) _ _ (λ w q. absurd (false≢true q)) (λ w. near-nearer n e index left s b hand)
   stage-nearer n Closed s b hand = λ q. absurd (false≢true q)
 
   pub turn-nearer : (p : Place) (b : Buffers) (hand : Hand) → Nearer (p .number) (p .stage) (turn h p b hand)

@@ -7,7 +7,9 @@ use lib.ListN.{length}
 use Rattle.scan.specs.State.{Buffers}
 use Rattle.log_lines.specs.declared.Line.{Line}
 use Rattle.log_lines.specs.declared.Line.the-variants as line
-use Rattle.recording.specs.Samples.{samplesIn}
+use Rattle.recording.specs.Recording.{offsetOf}
+use Rattle.recording.specs.Samples.{bytesOf, samplesIn}
+use Rattle.recording.specs.declared.Form.{Form}
 use Rattle.recording.specs.declared.Header.{Header}
 use Rattle.recording.specs.declared.Used.{Used}
 use Rattle.replay.specs.Events.{Play, logGoesOn, nearPlayed}
@@ -28,7 +30,7 @@ followed i h n p = p .lines ++ linesFrom i h (h .events - n) n (p .session) (p .
 abbrev pub ahead : Inputs → Header → List ℕ → ℕ → Stage → Session → Buffers → List Line
 ahead i h near n Opening s b = line.Replay (h .rate) (h .ceiling) ∷ linesFrom i h (h .events - n) n s b
 ahead i h near n Events s b = linesFrom i h (h .events - n) n s b
-ahead i h near n (Midway e index left) s b = followed i h n (logGoesOn (nearPlayed e s b (samplesIn near left) index))
+ahead i h near n (Midway e index left) s b = followed i h n (logGoesOn (nearPlayed e s b (samplesIn (h .form) near left) index))
 ahead i h near n Closed s b = []
 
 -- ---- where the bytes stand
@@ -40,13 +42,13 @@ leftOf (Midway e index left) = left
 leftOf Closed = 0
 
 -- the samples that a near event has left are counted as used, and their bytes are still there
-pub record Stands (events far near : List ℕ) (n : ℕ) (stage : Stage) (u : Used) (r : Rest) : Type 0 where
-  pub entries : Behind events (24 + 16 * n) (r .events)
-  pub fars : Behind far (4 * u .far) (r .far)
+pub record Stands (form : Form) (events far near : List ℕ) (n : ℕ) (stage : Stage) (u : Used) (r : Rest) : Type 0 where
+  pub entries : Behind events (offsetOf form + 16 * n) (r .events)
+  pub fars : Behind far (bytesOf form (u .far)) (r .far)
   pub passed : ℕ
   pub nears : Behind near passed (r .near)
-  pub partly : passed + 4 * leftOf stage ≡ 4 * u .near
-  pub there : 4 * leftOf stage ≤ length (r .near)
+  pub partly : passed + bytesOf form (leftOf stage) ≡ bytesOf form (u .near)
+  pub there : bytesOf form (leftOf stage) ≤ length (r .near)
   pub few : leftOf stage ≤ 4096
 
 -- ---- what was used was at hand
@@ -81,8 +83,8 @@ told-ends (l ∷ rest) ls = tt
 
 pub record Lawful (events far near : List ℕ) (h : Header) (n : ℕ) (stage : Stage) (s : Session) (b : Buffers) (r : Rest) (hand : Hand) (t : Next) : Type 0 where
   pub tells :
-      ahead (inputs events far near) h (r .near) n stage s b
-      ≡ said (t .answer) ++ ahead (inputs events far near) h (restAfter (t .used) r .near) (t .place .number) (t .place .stage) (t .place .session) (t .buffers)
-  pub stands : Stands events far near (t .place .number) (t .place .stage) (t .place .session .used) (restAfter (t .used) r)
+      ahead (inputs (h .form) events far near) h (r .near) n stage s b
+      ≡ said (t .answer) ++ ahead (inputs (h .form) events far near) h (restAfter (t .used) r .near) (t .place .number) (t .place .stage) (t .place .session) (t .buffers)
+  pub stands : Stands (h .form) events far near (t .place .number) (t .place .stage) (t .place .session .used) (restAfter (t .used) r)
   pub fits : Fits (t .used) hand
-  pub ends : Ends (t .answer) (ahead (inputs events far near) h (restAfter (t .used) r .near) (t .place .number) (t .place .stage) (t .place .session) (t .buffers))
+  pub ends : Ends (t .answer) (ahead (inputs (h .form) events far near) h (restAfter (t .used) r .near) (t .place .number) (t .place .stage) (t .place .session) (t .buffers))

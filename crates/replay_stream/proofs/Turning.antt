@@ -12,8 +12,8 @@ use borrow.Author.Tests.{leb-true, ltb-true, ltb-false}
 use Rattle.answers.specs.Pick.{pick, pick-case}
 use Rattle.scan.specs.State.{Buffers}
 use Rattle.log_lines.specs.declared.Line.{Line}
-use Rattle.recording.specs.Recording.{eventAt}
-use Rattle.recording.specs.Samples.{samplesIn}
+use Rattle.recording.specs.Recording.{offsetOf, eventAt}
+use Rattle.recording.specs.Samples.{bytesOf, samplesIn}
 use Rattle.recording.specs.declared.Header.{Header}
 use Rattle.recording.specs.declared.Event.{Event}
 use Rattle.recording.specs.declared.Entry.{Entry}
@@ -59,10 +59,10 @@ beyond-twice u v hand = rw (drop-drop (v .events) (u .events) (hand .events .byt
 
 module _ (events far near : List ℕ) (h : Header) where
   abbrev i : Inputs
-  i = inputs events far near
+  i = inputs (h .form) events far near
 
   module _ (n : ℕ) (s : Session) (b : Buffers) (r : Rest) (hand : Hand) (fair : FairHand r hand) where
-    closing-law : Stands events far near n Events (s .used) r → h .events ≤ n
+    closing-law : Stands (h .form) events far near n Events (s .used) r → h .events ≤ n
         → Lawful events far near h n Events s b r hand (next n Closed s b (Says (closing h s)) (bytesUsed 0 0 0))
     unfolding linesFrom
     closing-law st m = record {
@@ -72,22 +72,22 @@ module _ (events far near : List ℕ) (h : Header) where
       ends = tt;
     }
 
-    events-law : Stands events far near n Events (s .used) r → Lawful events far near h n Events s b r hand (turnAt h n Events s b hand)
+    events-law : Stands (h .form) events far near n Events (s .used) r → Lawful events far near h n Events s b r hand (turnAt h n Events s b hand)
     events-law st =
         pick-case (Lawful events far near h n Events s b r hand) (ltb n (h .events)) _ _
         (λ m. let more = ltb-true n (h .events) m in
         pick-case (Lawful events far near h n Events s b r hand) (short 16 (hand .events)) _ _
         (λ w. waiting events far near h n s b r hand st fair more _)
         (λ w. entry-law events far near h n s b r hand st fair more (eventAt (hand .events .bytes) 0)
-        (entry-here events (24 + 16 * n) (r .events) (st .entries) ∙ entry-handed (r .events) (hand .events) (fair .events) w)
+        (entry-here events (offsetOf (h .form) + 16 * n) (r .events) (st .entries) ∙ entry-handed (r .events) (hand .events) (fair .events) w)
         (good-whole (hand .events .bytes))))
         (λ m. closing-law st (ltb-false n (h .events) m))
 
     -- ---- a near event left midway
 
-    module _ (e index left : ℕ) (st : Stands events far near n (Midway e index left) (s .used) r) (there : 4 * left ≤ length (hand .near .bytes)) where
+    module _ (e index left : ℕ) (st : Stands (h .form) events far near n (Midway e index left) (s .used) r) (there : bytesOf (h .form) left ≤ length (hand .near .bytes)) where
       abbrev xs : List Float
-      xs = samplesIn (hand .near .bytes) left
+      xs = samplesIn (h .form) (hand .near .bytes) left
 
       abbrev c : Cut
       c = nearCut e s b xs index
@@ -99,59 +99,63 @@ module _ (events far near : List ℕ) (h : Header) where
       gone = left - length (c .left)
 
       passed-gone : C .passed ≡ gone
-      passed-gone = omega (arith, C .count, samples-length (hand .near .bytes) left)
+      passed-gone = omega (arith, C .count, samples-length (h .form) (hand .near .bytes) left)
 
       all-left : left ≡ gone + length (c .left)
-      all-left = omega (arith, C .count, samples-length (hand .near .bytes) left)
+      all-left = omega (arith, C .count, samples-length (h .form) (hand .near .bytes) left)
 
-      samples-left : c .left ≡ samplesIn (drop (4 * gone) (r .near)) (length (c .left))
+      all-bytes : bytesOf (h .form) left ≡ bytesOf (h .form) gone + bytesOf (h .form) (length (c .left))
+      all-bytes = ap (λ (k : ℕ). bytesOf (h .form) k) all-left ∙ omega arith
+
+      samples-left : c .left ≡ samplesIn (h .form) (drop (bytesOf (h .form) gone) (r .near)) (length (c .left))
       samples-left =
           sym (C .behind-them)
           ∙ ap (λ (k : ℕ). drop k xs) passed-gone
-          ∙ ap (drop gone) (sym (samples-handed (r .near) (hand .near) (fair .near) left there))
-          ∙ ap (λ (k : ℕ). drop gone (samplesIn (r .near) k)) all-left
-          ∙ samples-behind (r .near) gone (length (c .left))
+          ∙ ap (drop gone) (sym (samples-handed (r .near) (hand .near) (fair .near) (h .form) left there))
+          ∙ ap (λ (k : ℕ). drop gone (samplesIn (h .form) (r .near) k)) all-left
+          ∙ samples-behind (h .form) (r .near) gone (length (c .left))
 
       abbrev later : Play
       later = logGoesOn (nearPlayed e (c .session) (c .buffers) (c .left) (c .index))
 
       midway-tells : ahead i h (r .near) n (Midway e index left) s b
-          ≡ said (told (c .lines)) ++ ahead i h (drop (4 * gone) (r .near)) n (midway e (c .index) (length (c .left))) (c .session) (c .buffers)
+          ≡ said (told (c .lines)) ++ ahead i h (drop (bytesOf (h .form) gone) (r .near)) n (midway e (c .index) (length (c .left))) (c .session) (c .buffers)
       midway-tells =
-          ap (λ (ys : List Float). followed i h n (logGoesOn (nearPlayed e s b ys index))) (samples-handed (r .near) (hand .near) (fair .near) left there)
+          ap (λ (ys : List Float). followed i h n (logGoesOn (nearPlayed e s b ys index))) (samples-handed (r .near) (hand .near) (fair .near) (h .form) left there)
           ∙ ap (followed i h n) (C .plays)
           ∙ append-assoc (c .lines) (later .lines) (linesFrom i h (h .events - n) n (later .session) (later .buffers))
           ∙ ap (λ (ls : List Line). ls ++ followed i h n later) (sym (C .one))
           ∙ ap (λ (ys : List Float). said (told (c .lines)) ++ followed i h n (logGoesOn (nearPlayed e (c .session) (c .buffers) ys (c .index)))) samples-left
-          ∙ ap (λ (ls : List Line). said (told (c .lines)) ++ ls) (sym (midway-ahead i h (drop (4 * gone) (r .near)) n e (c .index) (length (c .left)) (c .session) (c .buffers)))
+          ∙ ap (λ (ls : List Line). said (told (c .lines)) ++ ls) (sym (midway-ahead i h (drop (bytesOf (h .form) gone) (r .near)) n e (c .index) (length (c .left)) (c .session) (c .buffers)))
 
-      midway-stands : Stands events far near n (midway e (c .index) (length (c .left))) (c .session .used) (restAfter (bytesUsed 0 0 (4 * gone)) r)
+      midway-stands : Stands (h .form) events far near n (midway e (c .index) (length (c .left))) (c .session .used) (restAfter (bytesUsed 0 0 (bytesOf (h .form) gone)) r)
       midway-stands =
           let used : c .session .used ≡ s .used = C .keeps in
-          let rest-there : 4 * gone ≤ length (r .near) = omega (arith, all-left, hand-length (r .near) (hand .near) (fair .near)) in
+          let rest-there : bytesOf (h .form) gone ≤ length (r .near) = omega (arith, all-bytes, there, hand-length (r .near) (hand .near) (fair .near)) in
           let left-is = midway-left e (c .index) (length (c .left)) in
+          let left-bytes = ap (λ (k : ℕ). bytesOf (h .form) k) left-is in
           record {
             entries = st .entries;
             fars = rw used (st .fars);
-            passed = st .passed + 4 * gone;
-            nears = behind-more near (st .passed) (r .near) (st .nears) (4 * gone) rest-there;
-            partly = omega (arith, st .partly, ap (λ (v : Used). 4 * v .near) used, left-is, all-left);
-            there = omega (arith, left-is, all-left, length-drop (4 * gone) (r .near), hand-length (r .near) (hand .near) (fair .near));
+            passed = st .passed + bytesOf (h .form) gone;
+            nears = behind-more near (st .passed) (r .near) (st .nears) (bytesOf (h .form) gone) rest-there;
+            partly = omega (arith, st .partly, ap (λ (v : Used). bytesOf (h .form) (v .near)) used, left-bytes, all-bytes);
+            there = omega (arith, left-bytes, all-bytes, there, length-drop (bytesOf (h .form) gone) (r .near), hand-length (r .near) (hand .near) (fair .near));
             few = omega (arith, left-is, all-left, st .few);
           }
 
-      near-turn-law : Lawful events far near h n (Midway e index left) s b r hand (nearTurn n e index left s b hand)
+      near-turn-law : Lawful events far near h n (Midway e index left) s b r hand (nearTurn (h .form) n e index left s b hand)
       unfolding nearTurn
       near-turn-law = record {
         tells = midway-tells;
         stands = midway-stands;
-        fits = record { events = omega arith; far = omega arith; near = omega (arith, all-left, there) };
+        fits = record { events = omega arith; far = omega arith; near = omega (arith, all-bytes, there) };
         ends = told-ends (c .lines) _;
       }
 
     -- ---- any turn
 
-    stage-law : (stage : Stage) → Stands events far near n stage (s .used) r → Lawful events far near h n stage s b r hand (turnAt h n stage s b hand)
+    stage-law : (stage : Stage) → Stands (h .form) events far near n stage (s .used) r → Lawful events far near h n stage s b r hand (turnAt h n stage s b hand)
     stage-law Opening st = record {
       tells = refl;
       stands = record { entries = st .entries; fars = st .fars; passed = st .passed; nears = st .nears; partly = st .partly; there = st .there; few = st .few };
@@ -160,16 +164,16 @@ module _ (events far near : List ℕ) (h : Header) where
     }
     stage-law Events st = events-law st
     stage-law (Midway e index left) st =
-        pick-case (Lawful events far near h n (Midway e index left) s b r hand) (ltb (min (length (hand .near .bytes)) 16384) (4 * left)) _ _
+        pick-case (Lawful events far near h n (Midway e index left) s b r hand) (ltb (min (length (hand .near .bytes)) (bytesOf (h .form) 4096)) (bytesOf (h .form) left)) _ _
         (λ w. record { tells = refl; stands = st; fits = fits-none hand; ends = tt })
-        (λ w. near-turn-law e index left st (omega (arith, ltb-false (min (length (hand .near .bytes)) 16384) (4 * left) w)))
+        (λ w. near-turn-law e index left st (omega (arith, ltb-false (min (length (hand .near .bytes)) (bytesOf (h .form) 4096)) (bytesOf (h .form) left) w)))
     stage-law Closed st = record { tells = refl; stands = st; fits = fits-none hand; ends = refl }
 
   abbrev pub At : Place → Buffers → Rest → Hand → Next → Type 0
   At p b r hand t = Lawful events far near h (p .number) (p .stage) (p .session) b r hand t
 
   abbrev pub StandsAt : Place → Rest → Type 0
-  StandsAt p r = Stands events far near (p .number) (p .stage) (p .session .used) r
+  StandsAt p r = Stands (h .form) events far near (p .number) (p .stage) (p .session .used) r
 
   pub turn-law : (p : Place) (b : Buffers) (r : Rest) (hand : Hand) → StandsAt p r → FairHand r hand → At p b r hand (turn h p b hand)
   unfolding turn

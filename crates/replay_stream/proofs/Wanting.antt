@@ -12,10 +12,12 @@ use Rattle.answers.proofs.Passed.{both-true}
 use Rattle.scan.specs.State.{Buffers}
 use Rattle.log_lines.specs.declared.Line.{Line}
 use Rattle.recording.specs.Recording.{eventAt}
-use Rattle.recording.specs.Samples.{samplesIn}
+use Rattle.recording.specs.Samples.{bytesOf, samplesIn}
+use Rattle.recording.specs.declared.Form.{Form}
 use Rattle.recording.specs.declared.Header.{Header}
 use Rattle.recording.specs.declared.Used.{Used}
 use Rattle.recording.specs.declared.Entry.{Entry}
+use Rattle.recording.proofs.Forms.{bytes-mono, bytes-most}
 use Rattle.replay.specs.Events.{stepped}
 use Rattle.replay.specs.declared.Session.{Session}
 use Rattle.replay_stream.specs.Stream.{Stage, Opening, Events, Midway, Closed, Place, Piece, Hand, Bytes, bytesUsed, past, beyond, short, Input, Entries, FarSide, NearSide, Says, Wants, Over, Next, waits, told, nearTurn, nearCut, Need, NoSamples, FarSamples, NearSamples, Few, needOf, awaits, sideOf, handed, seen, entryTurn, turnAt, turn, silent, turns, nextLine}
@@ -59,17 +61,17 @@ waits-truly n stage s b hand i e j q = (subst (λ (k : Input). Lacks k hand) (sa
 
 awaits-short : (h : Header) (u : Used) (hand : Hand) (need : Need) → Few need → awaits h u hand need ≡ true → Lacks (sideOf need) hand
 awaits-short h u hand NoSamples f e = absurd (false≢true e)
-awaits-short h u hand (FarSamples count) f e = short-more (4 * count) 16384 (hand .far) (omega arith) (both-true _ _ e .1)
-awaits-short h u hand (NearSamples count first) f e = short-more (4 * count) 16384 (hand .near) (omega arith) (both-true _ _ e .1)
+awaits-short h u hand (FarSamples count) f e = short-more (bytesOf (h .form) count) 16384 (hand .far) (omega (arith, bytes-most (h .form) count)) (both-true _ _ e .1)
+awaits-short h u hand (NearSamples count first) f e = short-more (bytesOf (h .form) count) 16384 (hand .near) (omega (arith, bytes-most (h .form) count)) (both-true _ _ e .1)
 
 -- a near event left midway has its bytes: what is not at hand of it is to come
-midway-short : (left : ℕ) (near : List ℕ) (p : Piece) → Front near p → 4 * left ≤ length near → left ≤ 4096 → ltb (min (length (p .bytes)) 16384) (4 * left) ≡ true → short 16384 p ≡ true
+midway-short : (form : Form) (left : ℕ) (near : List ℕ) (p : Piece) → Front near p → bytesOf form left ≤ length near → left ≤ 4096 → ltb (min (length (p .bytes)) (bytesOf form 4096)) (bytesOf form left) ≡ true → short 16384 p ≡ true
 unfolding pick
-midway-short left near p f there few w = short-more (4 * left) 16384 p (omega arith) (go (p .ended) refl)
+midway-short form left near p f there few w = short-more (bytesOf form left) 16384 p (omega (arith, bytes-most form left)) (go (p .ended) refl)
   where
-    go : (t : Bool) → p .ended ≡ t → both (not t) (ltb (length (p .bytes)) (4 * left)) ≡ true
-    go false e = lt-ltb (length (p .bytes)) (4 * left) (omega (arith, ltb-true (min (length (p .bytes)) 16384) (4 * left) w))
-    go true e = absurd (omega (arith, ltb-true (min (length (p .bytes)) 16384) (4 * left) w, ap length (all-there near p f e)))
+    go : (t : Bool) → p .ended ≡ t → both (not t) (ltb (length (p .bytes)) (bytesOf form left)) ≡ true
+    go false e = lt-ltb (length (p .bytes)) (bytesOf form left) (omega (arith, bytes-mono form left 4096 few, ltb-true (min (length (p .bytes)) (bytesOf form 4096)) (bytesOf form left) w))
+    go true e = absurd (omega (arith, bytes-mono form left 4096 few, ltb-true (min (length (p .bytes)) (bytesOf form 4096)) (bytesOf form left) w, ap length (all-there near p f e)))
 
 none-used : (i : Input) (u : Bytes) (hand : Hand) → usedOf i u ≡ 0 → pieceOf i (beyond u hand) ≡ pieceOf i hand
 none-used Entries u hand z = ap (λ (k : ℕ). past k (hand .events)) z
@@ -80,12 +82,12 @@ module _ (events far near : List ℕ) (h : Header) where
   entry-truly : (n : ℕ) (s : Session) (b : Buffers) (hand : Hand) (k : Entry) → Few (needOf k) → Truly n Events s b hand (entryTurn h n s b hand k)
   unfolding entryTurn
   entry-truly n s b hand k f =
-      let p = stepped h (seen (s .used) hand) n s b k (handed hand (needOf k)) in
+      let p = stepped h (seen (h .form) (s .used) hand) n s b k (handed (h .form) hand (needOf k)) in
       pick-case (Truly n Events s b hand) (awaits h (s .used) hand (needOf k)) _ _
       (λ w. waits-truly n Events s b hand (sideOf (needOf k)) (awaits-short h (s .used) hand (needOf k) f w))
       (λ w. pick-case (Truly n Events s b hand) (p .ends) _ _ (λ e i q. absurd (told-wants (p .lines) i q)) (λ e i q. absurd (told-wants (p .lines) i q)))
 
-  stage-truly : (n : ℕ) (stage : Stage) (s : Session) (b : Buffers) (r : Rest) (hand : Hand) → Stands events far near n stage (s .used) r → FairHand r hand → Truly n stage s b hand (turnAt h n stage s b hand)
+  stage-truly : (n : ℕ) (stage : Stage) (s : Session) (b : Buffers) (r : Rest) (hand : Hand) → Stands (h .form) events far near n stage (s .used) r → FairHand r hand → Truly n stage s b hand (turnAt h n stage s b hand)
   unfolding nearTurn
   stage-truly n Opening s b r hand st fair = λ i q. absurd (says-wants _ i q)
   stage-truly n Events s b r hand st fair =
@@ -93,9 +95,9 @@ module _ (events far near : List ℕ) (h : Header) where
       (λ m. pick-case (Truly n Events s b hand) (short 16 (hand .events)) _ _ (waits-truly n Events s b hand Entries) (λ w. entry-truly n s b hand (eventAt (hand .events .bytes) 0) (entry-few (hand .events .bytes) 0)))
       (λ m i q. absurd (says-wants _ i q))
   stage-truly n (Midway e index left) s b r hand st fair =
-      pick-case (Truly n (Midway e index left) s b hand) (ltb (min (length (hand .near .bytes)) 16384) (4 * left)) _ _
-      (λ w. waits-truly n (Midway e index left) s b hand NearSide (midway-short left (r .near) (hand .near) (fair .near) (st .there) (st .few) w))
-      (λ w i q. absurd (told-wants (nearCut e s b (samplesIn (hand .near .bytes) left) index .lines) i q))
+      pick-case (Truly n (Midway e index left) s b hand) (ltb (min (length (hand .near .bytes)) (bytesOf (h .form) 4096)) (bytesOf (h .form) left)) _ _
+      (λ w. waits-truly n (Midway e index left) s b hand NearSide (midway-short (h .form) left (r .near) (hand .near) (fair .near) (st .there) (st .few) w))
+      (λ w i q. absurd (told-wants (nearCut e s b (samplesIn (h .form) (hand .near .bytes) left) index .lines) i q))
   stage-truly n Closed s b r hand st fair = λ i q. absurd (over-wants i q)
 
   pub turn-truly : (p : Place) (b : Buffers) (r : Rest) (hand : Hand) → StandsAt events far near h p r → FairHand r hand → Truly (p .number) (p .stage) (p .session) b hand (turn h p b hand)

@@ -1,5 +1,5 @@
 -- What a host gets by streaming is the log of the recording, for every recording, however its bytes come in.
-use Prim.Native.Nat.{ℕ, _-_, _≤_}
+use Prim.Native.Nat.{ℕ, _+_, _-_, _*_, _≤_}
 use mathlib.Core.Path.{_≡_, refl, sym, ap, _∙_, subst}
 use mathlib.Core.Bool.{Bool, true, false}
 use mathlib.Core.List.{List, _∷_, _++_}
@@ -13,10 +13,12 @@ use Rattle.scan.specs.Bins.{geometryOf}
 use Rattle.scan.specs.State.{Buffers}
 use Rattle.log_lines.specs.declared.Line.{Line}
 use Rattle.log_lines.specs.declared.Line.the-variants as line
-use Rattle.recording.specs.Recording.{opened, headerAt}
+use Rattle.recording.specs.Recording.{offsetOf, opened}
+use Rattle.recording.specs.Samples.{bytesOf}
 use Rattle.recording.specs.declared.Header.{Header}
 use Rattle.recording.specs.declared.Start.the-variants as start
 use Rattle.replay.specs.Log.{inputs, linesFrom, started, logOf, newSession, clearBuffers}
+use Rattle.recording.proofs.Forms.{opened-whole}
 use Rattle.replay.specs.Beginning.{beginning, beginningOf}
 use Rattle.replay.specs.declared.Session.{Session}
 use Rattle.replay.specs.declared.Begun.the-variants as begun
@@ -33,7 +35,7 @@ use Rattle.replay_stream.proofs.Turning.{At, StandsAt, next-law}
 module _ (events far near : List ℕ) (h : Header) where
   -- what is ahead at a place
   abbrev pub to-come : Place → Buffers → Rest → List Line
-  to-come p b r = ahead (inputs events far near) h (r .near) (p .number) (p .stage) (p .session) b
+  to-come p b r = ahead (inputs (h .form) events far near) h (r .near) (p .number) (p .stage) (p .session) b
 
   call-law : (p : Place) (b : Buffers) (r : Rest) (c : NextCall h p b r) → StandsAt events far near h p r → At events far near h p b r (c .hand) (c .gave)
   call-law p b r c st = subst (At events far near h p b r (c .hand)) (sym (c .contract)) (next-law events far near h p b r (c .hand) st (c .fair))
@@ -56,54 +58,47 @@ module _ (events far near : List ℕ) (h : Header) where
 
 -- ---- the start
 
-opened-for : (t : Bool) (k h : Header) → pick t (start.Opened k) start.BadHeader ≡ start.Opened h → t ≡ true
-unfolding pick
-opened-for true k h e = refl
-opened-for false k h e = let z : _≡_ {A = ℕ} 0 1 = cc in absurd (omega (arith, z))
-
--- a header that opens is whole
-pub opened-whole : (events : List ℕ) (h : Header) → opened events ≡ start.Opened h → 24 ≤ length events
-unfolding opened
-opened-whole events h q = leb-true 24 (length events) (both-true (leb 24 (length events)) _ (opened-for _ (headerAt events) h q) .0)
-
 -- behind the header nothing is used
-pub start-stands : (events far near : List ℕ) (h : Header) → 24 ≤ length events
-    → Stands events far near 0 Opening (newSession (h .rate) (h .ceiling) .used) (rest (drop 24 events) far near)
+pub start-stands : (events far near : List ℕ) (h : Header) → offsetOf (h .form) ≤ length events
+    → Stands (h .form) events far near 0 Opening (newSession (h .rate) (h .ceiling) .used) (rest (drop (offsetOf (h .form)) events) far near)
 unfolding newSession
-start-stands events far near h m = record {
-  entries = record { at = refl; most = m };
-  fars = record { at = refl; most = omega arith };
-  passed = 0;
-  nears = record { at = refl; most = omega arith };
-  partly = refl;
-  there = omega arith;
-  few = omega arith;
-}
+start-stands events far near h m =
+    let first : offsetOf (h .form) + 16 * 0 ≡ offsetOf (h .form) = omega arith in
+    let none : bytesOf (h .form) 0 ≡ 0 = omega arith in
+    record {
+      entries = record { at = ap (λ (k : ℕ). drop k events) first; most = omega (arith, m) };
+      fars = record { at = ap (λ (k : ℕ). drop k far) none; most = omega (arith, none) };
+      passed = 0;
+      nears = record { at = refl; most = omega arith };
+      partly = omega arith;
+      there = omega (arith, none);
+      few = omega arith;
+    }
 
 pub ready-stands : (events far near : List ℕ) (h : Header) (lent cleared : Buffers) (s : Session) → opened events ≡ start.Opened h → beginning (begun.Ready s) cleared ≡ beginningOf h lent
-    → StandsAt events far near h (opens s) (rest (drop 24 events) far near)
+    → StandsAt events far near h (opens s) (rest (drop (offsetOf (h .form)) events) far near)
 ready-stands events far near h lent cleared s q ready = rw (ready-is h lent cleared s ready .0) (start-stands events far near h (opened-whole events h q))
 
 -- ---- all of it
 
 -- what is streamed behind a good header is the log
 pub opened-log : (events far near : List ℕ) (h : Header) (lent cleared : Buffers) (s : Session) (ts : List Noted) → opened events ≡ start.Opened h
-    → beginning (begun.Ready s) cleared ≡ beginningOf h lent → Streamed h (opens s) cleared (rest (drop 24 events) far near) ts → linesOf ts ≡ logOf events far near
+    → beginning (begun.Ready s) cleared ≡ beginningOf h lent → Streamed h (opens s) cleared (rest (drop (offsetOf (h .form)) events) far near) ts → linesOf ts ≡ logOf events far near
 unfolding logOf
 opened-log events far near h lent cleared s ts q ready x =
-    let i = inputs events far near in
+    let i = inputs (h .form) events far near in
     let is = ready-is h lent cleared s ready in
     let new = newSession (h .rate) (h .ceiling) in
     let clear = clearBuffers (geometryOf (h .rate) (h .ceiling)) in
     let all-events : h .events - 0 ≡ h .events = omega arith in
-    streamed-lines events far near h (opens s) cleared (rest (drop 24 events) far near) ts x (ready-stands events far near h lent cleared s q ready)
+    streamed-lines events far near h (opens s) cleared (rest (drop (offsetOf (h .form)) events) far near) ts x (ready-stands events far near h lent cleared s q ready)
     ∙ ap (λ (s₁ : Session). ahead i h near 0 Opening s₁ cleared) (is .0)
     ∙ ap (λ (b₁ : Buffers). ahead i h near 0 Opening new b₁) (is .1)
     ∙ ap (λ (left : ℕ). line.Replay (h .rate) (h .ceiling) ∷ linesFrom i h left 0 new clear) all-events
-    ∙ ap (started i) (sym q)
+    ∙ ap (started events far near) (sym q)
 
 -- What the host gets is the log.
 pub streamed-log : (events far near : List ℕ) (ls : List Line) → Streams events far near ls → ls ≡ logOf events far near
 unfolding logOf
-streamed-log events far near ls (unopened first f w q) = ap (started (inputs events far near)) (sym (header-handed events first f w ∙ q))
+streamed-log events far near ls (unopened first f w q) = ap (started events far near) (sym (header-handed events first f w ∙ q))
 streamed-log events far near ls (streams first h lent cleared s ts f w q ready later) = opened-log events far near h lent cleared s ts (header-handed events first f w ∙ q) ready later

@@ -9,7 +9,8 @@ use lib.ListN.{length, drop}
 use Rattle.scan.specs.State.{Buffers}
 use Rattle.log_lines.specs.declared.Line.{Line}
 use Rattle.log_lines.specs.declared.Line.the-variants as line
-use Rattle.recording.specs.Recording.{opened}
+use Rattle.recording.specs.Recording.{offsetOf, opened, headerLength}
+use Rattle.recording.specs.Samples.{bytesOf}
 use Rattle.recording.specs.declared.Header.{Header}
 use Rattle.recording.specs.declared.Start.the-variants as start
 use Rattle.replay.specs.Beginning.{beginning, beginningOf}
@@ -71,16 +72,16 @@ pub data Streamed (h : Header) : Place → Buffers → Rest → List Noted → T
 abbrev pub opens : Session → Place
 opens s = record { number = 0; stage = Opening; session = s }
 
--- all of it. The header is read from 24 bytes at hand, or from all where there are fewer.
+-- all of it. The header is read from as many bytes at hand as its first 24 say that it has, or from all where there are fewer.
 pub data Streams (events far near : List ℕ) : List Line → Type 0 where
-  unopened : (first : Piece) → Front events first → short 24 first ≡ false → opened (first .bytes) ≡ start.BadHeader → Streams events far near (line.BadHeader ∷ [])
-  streams : (first : Piece) (h : Header) (lent cleared : Buffers) (s : Session) (ts : List Noted) → Front events first → short 24 first ≡ false
+  unopened : (first : Piece) → Front events first → short (headerLength (first .bytes)) first ≡ false → opened (first .bytes) ≡ start.BadHeader → Streams events far near (line.BadHeader ∷ [])
+  streams : (first : Piece) (h : Header) (lent cleared : Buffers) (s : Session) (ts : List Noted) → Front events first → short (headerLength (first .bytes)) first ≡ false
       → opened (first .bytes) ≡ start.Opened h → beginning (begun.Ready s) cleared ≡ beginningOf h lent
-      → Streamed h (opens s) cleared (rest (drop 24 events) far near) ts → Streams events far near (linesOf ts)
+      → Streamed h (opens s) cleared (rest (drop (offsetOf (h .form)) events) far near) ts → Streams events far near (linesOf ts)
 
 -- ---- how much a host needs at hand
 
--- With this many bytes of an input at hand, or all that are left and word of its end, no single turn wants more of it: an entry, or the samples of the largest event.
+-- With this many bytes of an input at hand, or all that are left and word of its end, no single turn wants more of it: an entry, or the samples of the largest event in any form.
 abbrev pub plenty : Input → ℕ
 plenty Entries = 16
 plenty FarSide = 16384
@@ -98,6 +99,6 @@ usedOf NearSide u = u .near
 
 -- the inputs have every byte that the header announces
 pub record Announced (h : Header) (e f n : List ℕ) : Type 0 where
-  pub entries : 24 + 16 * h .events ≤ length e
-  pub fars : 4 * h .far ≤ length f
-  pub nears : 4 * h .near ≤ length n
+  pub entries : offsetOf (h .form) + 16 * h .events ≤ length e
+  pub fars : bytesOf (h .form) (h .far) ≤ length f
+  pub nears : bytesOf (h .form) (h .near) ≤ length n

@@ -6,6 +6,7 @@ use mathlib.Core.List.{List, [], _∷_}
 use lib.ListN.{length, drop}
 use Rattle.scan.specs.Bins.{geometryOf}
 use Rattle.scan.specs.State.{Buffers}
+use Rattle.recording.specs.Recording.{offsetOf}
 use Rattle.recording.specs.declared.Header.{Header}
 use Rattle.replay.specs.Log.{logOf, newSession, clearBuffers}
 use Rattle.replay.specs.declared.Session.{Session}
@@ -34,4 +35,4 @@ notes (suc more) h p b r =
 -- a call for each line of the log
 unfoldable pub notedOf : Header → List ℕ → List ℕ → List ℕ → List Noted
 notedOf h events far near =
-    notes (length (logOf events far near)) h (opens (newSession (h .rate) (h .ceiling))) (clearBuffers (geometryOf (h .rate) (h .ceiling))) (rest (drop 24 events) far near)
+    notes (length (logOf events far near)) h (opens (newSession (h .rate) (h .ceiling))) (clearBuffers (geometryOf (h .rate) (h .ceiling))) (rest (drop (offsetOf (h .form)) events) far near)

@@ -14,7 +14,8 @@ use Rattle.scan.specs.State.{Buffers}
 use Rattle.log_lines.specs.declared.Line.{Line}
 use Rattle.log_lines.specs.declared.Line.the-variants as line
 use Rattle.recording.specs.Recording.{eventAt}
-use Rattle.recording.specs.Samples.{samplesIn}
+use Rattle.recording.specs.Samples.{bytesOf, samplesIn}
+use Rattle.recording.specs.declared.Form.{Form}
 use Rattle.recording.specs.declared.Header.{Header}
 use Rattle.recording.specs.declared.Lengths.{Lengths}
 use Rattle.recording.specs.declared.Used.{Used}
@@ -107,10 +108,10 @@ abbrev pub midway : ℕ → ℕ → ℕ → Stage
 midway e index zero = Events
 midway e index (suc n) = Midway e index (suc n)
 
-unfoldable pub nearTurn : ℕ → ℕ → ℕ → ℕ → Session → Buffers → Hand → Next
-nearTurn number e index left s b hand =
-    let c = nearCut e s b (samplesIn (hand .near .bytes) left) index in
-    next number (midway e (c .index) (length (c .left))) (c .session) (c .buffers) (told (c .lines)) (bytesUsed 0 0 (4 * (left - length (c .left))))
+unfoldable pub nearTurn : Form → ℕ → ℕ → ℕ → ℕ → Session → Buffers → Hand → Next
+nearTurn form number e index left s b hand =
+    let c = nearCut e s b (samplesIn form (hand .near .bytes) left) index in
+    next number (midway e (c .index) (length (c .left))) (c .session) (c .buffers) (told (c .lines)) (bytesUsed 0 0 (bytesOf form (left - length (c .left))))
 
 -- ---- an event
 
@@ -138,13 +139,13 @@ needOf (entry.Good (event.Edge alignment delay)) = NoSamples
 needOf (entry.Good event.Discontinuity) = NoSamples
 
 -- its bytes are awaited; not so where it passes the header's total, for then it is bad without them
-abbrev pub awaited : ℕ → ℕ → ℕ → Piece → Bool
-awaited used total count p = both (leb (used + count) total) (short (4 * count) p)
+abbrev pub awaited : Form → ℕ → ℕ → ℕ → Piece → Bool
+awaited form used total count p = both (leb (used + count) total) (short (bytesOf form count) p)
 
 abbrev pub awaits : Header → Used → Hand → Need → Bool
 awaits h u hand NoSamples = false
-awaits h u hand (FarSamples count) = awaited (u .far) (h .far) count (hand .far)
-awaits h u hand (NearSamples count first) = awaited (u .near) (h .near) count (hand .near)
+awaits h u hand (FarSamples count) = awaited (h .form) (u .far) (h .far) count (hand .far)
+awaits h u hand (NearSamples count first) = awaited (h .form) (u .near) (h .near) count (hand .near)
 
 abbrev pub sideOf : Need → Input
 sideOf NoSamples = Entries
@@ -152,36 +153,36 @@ sideOf (FarSamples count) = FarSide
 sideOf (NearSamples count first) = NearSide
 
 -- the samples that it is played with at once: those of a near event are played behind it, from the stage Midway
-abbrev pub handed : Hand → Need → List Float
-handed hand NoSamples = []
-handed hand (FarSamples count) = samplesIn (hand .far .bytes) count
-handed hand (NearSamples count first) = []
+abbrev pub handed : Form → Hand → Need → List Float
+handed form hand NoSamples = []
+handed form hand (FarSamples count) = samplesIn form (hand .far .bytes) count
+handed form hand (NearSamples count first) = []
 
 abbrev pub stageAfter : ℕ → Need → Stage
 stageAfter e NoSamples = Events
 stageAfter e (FarSamples count) = Events
 stageAfter e (NearSamples count first) = midway e first count
 
-abbrev pub usedFor : Need → Bytes
-usedFor NoSamples = bytesUsed 16 0 0
-usedFor (FarSamples count) = bytesUsed 16 (4 * count) 0
-usedFor (NearSamples count first) = bytesUsed 16 0 0
+abbrev pub usedFor : Form → Need → Bytes
+usedFor form NoSamples = bytesUsed 16 0 0
+usedFor form (FarSamples count) = bytesUsed 16 (bytesOf form count) 0
+usedFor form (NearSamples count first) = bytesUsed 16 0 0
 
 -- how many bytes of the sample inputs have been seen, if all samples so far were used
-abbrev pub seen : Used → Hand → Lengths
-seen u hand = record { far = 4 * u .far + length (hand .far .bytes); near = 4 * u .near + length (hand .near .bytes) }
+abbrev pub seen : Form → Used → Hand → Lengths
+seen form u hand = record { far = bytesOf form (u .far) + length (hand .far .bytes); near = bytesOf form (u .near) + length (hand .near .bytes) }
 
-abbrev pub entered : ℕ → Session → Need → Play → Next
-entered e s need p =
+abbrev pub entered : Form → ℕ → Session → Need → Play → Next
+entered form e s need p =
     pick (p .ends)
     (next e Closed s (p .buffers) (told (p .lines)) (bytesUsed 0 0 0))
-    (next (e + 1) (stageAfter e need) (p .session) (p .buffers) (told (p .lines)) (usedFor need))
+    (next (e + 1) (stageAfter e need) (p .session) (p .buffers) (told (p .lines)) (usedFor form need))
 
 unfoldable pub entryTurn : Header → ℕ → Session → Buffers → Hand → Entry → Next
 entryTurn h e s b hand k =
     pick (awaits h (s .used) hand (needOf k))
     (waits e Events s b (sideOf (needOf k)))
-    (entered e s (needOf k) (stepped h (seen (s .used) hand) e s b k (handed hand (needOf k))))
+    (entered (h .form) e s (needOf k) (stepped h (seen (h .form) (s .used) hand) e s b k (handed (h .form) hand (needOf k))))
 
 -- ---- a turn
 
@@ -193,9 +194,9 @@ turnAt h number Events s b hand =
     (pick (short 16 (hand .events)) (waits number Events s b Entries) (entryTurn h number s b hand (eventAt (hand .events .bytes) 0)))
     (next number Closed s b (Says (closing h s)) (bytesUsed 0 0 0))
 turnAt h number (Midway e index left) s b hand =
-    pick (ltb (min (length (hand .near .bytes)) 16384) (4 * left))
+    pick (ltb (min (length (hand .near .bytes)) (bytesOf (h .form) 4096)) (bytesOf (h .form) left))
     (waits number (Midway e index left) s b NearSide)
-    (nearTurn number e index left s b hand)
+    (nearTurn (h .form) number e index left s b hand)
 turnAt h number Closed s b hand = next number Closed s b Over (bytesUsed 0 0 0)
 
 unfoldable pub turn : Header → Place → Buffers → Hand → Next

@@ -9,6 +9,9 @@ use lib.Ieee.{Float}
 use lib.ListN.{length}
 use borrow.Author.Tests.{lt-ltb, le-ltb, ltb-true, ltb-false}
 use Rattle.scan.specs.State.{Buffers}
+use Rattle.recording.specs.Samples.{bytesOf}
+use Rattle.recording.specs.declared.Form.{Form}
+use Rattle.recording.proofs.Forms.{bytes-mono}
 use Rattle.replay.specs.declared.Session.{Session}
 use Rattle.replay_stream.specs.Stream.{bytesUsed, next, told, Cut, midway, nearCut}
 use Rattle.replay_stream.proofs.Cutting.{cuts}
@@ -20,15 +23,15 @@ use Rattle.replay_stream.specs.Giving.{turned, gives}
 pub cut-within : (r : NearCut) (b′ : Buffers) (e : ℕ) (s : Session) (b : Buffers) (xs : List Float) (index : ℕ) → cutsAt r b′ ≡ cutTells (nearCut e s b xs index) → r .left ≤ length xs
 cut-within r b′ e s b xs index q = omega (arith, ap (λ (t : CutTold). t .left) q, cuts e s b xs index .count)
 
-pub near-turned : (n e left : ℕ) (r : NearCut) (b′ : Buffers) (c : Cut) → cutsAt r b′ ≡ cutTells c
-    → gives (turned n (midway e (r .index) (r .left)) (r .session) (r .answer) (bytesUsed 0 0 (4 * (left - r .left)))) b′
-    ≡ next n (midway e (c .index) (length (c .left))) (c .session) (c .buffers) (told (c .lines)) (bytesUsed 0 0 (4 * (left - length (c .left))))
-near-turned n e left r b′ c q = ap (λ (t : CutTold). next n (midway e (t .index) (t .left)) (t .session) (t .buffers) (t .answer) (bytesUsed 0 0 (4 * (left - t .left)))) q
+pub near-turned : (form : Form) (n e left : ℕ) (r : NearCut) (b′ : Buffers) (c : Cut) → cutsAt r b′ ≡ cutTells c
+    → gives (turned n (midway e (r .index) (r .left)) (r .session) (r .answer) (bytesUsed 0 0 (bytesOf form (left - r .left)))) b′
+    ≡ next n (midway e (c .index) (length (c .left))) (c .session) (c .buffers) (told (c .lines)) (bytesUsed 0 0 (bytesOf form (left - length (c .left))))
+near-turned form n e left r b′ c q = ap (λ (t : CutTold). next n (midway e (t .index) (t .left)) (t .session) (t .buffers) (t .answer) (bytesUsed 0 0 (bytesOf form (left - t .left)))) q
 
 -- no more than 16,384 bytes are looked at
-pub lacks-is : (n left : ℕ) → left ≤ 4096 → ltb n (4 * left) ≡ ltb (min n 16384) (4 * left)
-lacks-is n left few = go (ltb n (4 * left)) refl
+pub lacks-is : (form : Form) (n left : ℕ) → left ≤ 4096 → ltb n (bytesOf form left) ≡ ltb (min n (bytesOf form 4096)) (bytesOf form left)
+lacks-is form n left few = go (ltb n (bytesOf form left)) refl
   where
-    go : (t : Bool) → ltb n (4 * left) ≡ t → ltb n (4 * left) ≡ ltb (min n 16384) (4 * left)
-    go true e = e ∙ sym (lt-ltb (min n 16384) (4 * left) (omega (arith, ltb-true n (4 * left) e)))
-    go false e = e ∙ sym (le-ltb (min n 16384) (4 * left) (omega (arith, ltb-false n (4 * left) e)))
+    go : (t : Bool) → ltb n (bytesOf form left) ≡ t → ltb n (bytesOf form left) ≡ ltb (min n (bytesOf form 4096)) (bytesOf form left)
+    go true e = e ∙ sym (lt-ltb (min n (bytesOf form 4096)) (bytesOf form left) (omega (arith, bytes-mono form left 4096 few, ltb-true n (bytesOf form left) e)))
+    go false e = e ∙ sym (le-ltb (min n (bytesOf form 4096)) (bytesOf form left) (omega (arith, bytes-mono form left 4096 few, ltb-false n (bytesOf form left) e)))

@@ -2,6 +2,7 @@
 pub mod near; // the samples that a near event has left
 
 use log_lines::Line;
+use recording::Form;
 use recording::Header;
 use replay::Session;
 use replay_stream::Answer;
@@ -12,7 +13,8 @@ use replay_stream::Place;
 use replay_stream::Stage;
 use replay_stream::Turned;
 ghost use mathlib.Core.Path.{_≡_};
-ghost use Prim.Native.Nat.{_*_, min};
+ghost use Prim.Native.Nat.{min};
+ghost use Rattle.recording.specs.Samples.{bytesOf};
 ghost use lib.Dec.{ltb};
 ghost use lib.ListN.{length};
 ghost use Rattle.scan_score.specs.Observing.{lent};
@@ -41,13 +43,13 @@ fn stands(number: u32, stage: Stage, session: Session, answer: Answer) -> Turned
 }
 
 // Whether the samples that a near event has left are not all at hand.
-fn lacks(near: &[u8], left: u32) -> bool
-    ensures { λ r. ⌜ r ≡ ltb (min (length (now (near .entry))) 16384) (4 * left) ⌝ }
+fn lacks(form: Form, near: &[u8], left: u32) -> bool
+    ensures { λ r. ⌜ r ≡ ltb (min (length (now (near .entry))) (bytesOf form 4096)) (bytesOf form left) ⌝ }
 {
     if left > 4096 {
         return true;
     }
-    near.len() < 4 * left as usize
+    near.len() < recording::bytes_of(form, left) as usize
 }
 
 pub fn turn(
@@ -72,6 +74,7 @@ pub fn turn(
     let session = place.session;
     let stage = place.stage;
     let number = place.number;
+    let form = header.form;
     match stage {
         Stage::Opening => stands(
             number,
@@ -98,10 +101,11 @@ pub fn turn(
             stands(number, Stage::Closed, session, Answer::Says(line))
         }
         Stage::Midway { event, index, left } => {
-            if lacks(near, left) {
+            if lacks(form, near, left) {
                 return stands(number, stage, session, Answer::Wants(Input::NearSide));
             }
             near::near_turn(
+                form,
                 number,
                 event,
                 index,

@@ -1,20 +1,22 @@
 // The samples that a near event has left.
+use recording::Form;
 use replay::Session;
 use replay_near::NearCut;
 use replay_stream::Bytes;
 use replay_stream::Place;
 use replay_stream::Turned;
 ghost use mathlib.Core.Path.{_≡_};
-ghost use Prim.Native.Nat.{_≤_, _-_, _*_};
+ghost use Prim.Native.Nat.{_≤_, _-_};
+ghost use Rattle.recording.specs.Samples.{bytesOf};
 ghost use Rattle.scan_score.specs.Observing.{lent};
 ghost use Rattle.replay_near.specs.Telling.{Room};
 ghost use Rattle.replay_stream.specs.Stream.{bytesUsed, nearTurn, midway};
 ghost use Rattle.replay_stream.specs.Giving.{turned, gives};
 ghost use Rattle.replay_turn.specs.NearHand.{nearHand};
 
-fn after_near(number: u32, event: u32, left: u32, cut: NearCut) -> Turned
+fn after_near(form: Form, number: u32, event: u32, left: u32, cut: NearCut) -> Turned
     requires { ⌜ (cut .left ≤ left) × (left ≤ 4096) ⌝ }
-    ensures { λ r. ⌜ r ≡ turned number (midway event (cut .index) (cut .left)) (cut .session) (cut .answer) (bytesUsed 0 0 (4 * (left - cut .left))) ⌝ }
+    ensures { λ r. ⌜ r ≡ turned number (midway event (cut .index) (cut .left)) (cut .session) (cut .answer) (bytesUsed 0 0 (bytesOf form (left - cut .left))) ⌝ }
 {
     let session = cut.session;
     let answer = cut.answer;
@@ -30,13 +32,14 @@ fn after_near(number: u32, event: u32, left: u32, cut: NearCut) -> Turned
         used: Bytes {
             events: 0,
             far: 0,
-            near: 4 * (left as usize - rest),
+            near: recording::bytes_of(form, left - rest as u32) as usize,
         },
     }
 }
 
 // The samples that a near event has left, up to the next line.
 pub fn near_turn(
+    form: Form,
     number: u32,
     event: u32,
     index: u64,
@@ -52,10 +55,11 @@ pub fn near_turn(
     scores: &mut [f64],
     lag_sums: &mut [f64],
 ) -> Turned
-    requires { ⌜ Room left (now near) (now samples) ⌝ }
-    ensures { λ r. ⌜ gives r (lent (now (envelope .entry)) (now (levels .exit)) (now (window .exit)) (now (prefix .exit)) (now (squares .exit)) (now (scores .exit)) (now («lag_sums» .exit))) ≡ nearTurn number event index left session (lent (now (envelope .entry)) (now (levels .entry)) (now (window .entry)) (now (prefix .entry)) (now (squares .entry)) (now (scores .entry)) (now («lag_sums» .entry))) (nearHand (now (near .entry))) ⌝ }
+    requires { ⌜ Room form left (now near) (now samples) ⌝ }
+    ensures { λ r. ⌜ gives r (lent (now (envelope .entry)) (now (levels .exit)) (now (window .exit)) (now (prefix .exit)) (now (squares .exit)) (now (scores .exit)) (now («lag_sums» .exit))) ≡ nearTurn form number event index left session (lent (now (envelope .entry)) (now (levels .entry)) (now (window .entry)) (now (prefix .entry)) (now (squares .entry)) (now (scores .entry)) (now («lag_sums» .entry))) (nearHand (now (near .entry))) ⌝ }
 {
     let cut = replay_near::near_cut(
+        form,
         event,
         session,
         near,
@@ -70,5 +74,5 @@ pub fn near_turn(
         scores,
         lag_sums,
     );
-    after_near(number, event, left, cut)
+    after_near(form, number, event, left, cut)
 }

@@ -90,7 +90,7 @@ pub fn events(random: &mut Random, shelf: &mut Shelf) {
 }
 
 /// Some cycles and two hundred samples on each side.
-fn with_samples(random: &mut Random) -> Maker {
+pub fn with_samples(random: &mut Random) -> Maker {
     let mut maker = Maker::new(8000, 20);
     let signal = Signal::speech(random, 40);
     cycles(random, &mut maker, 3);

@@ -6,6 +6,7 @@ mod holes;
 pub mod long;
 mod refused;
 mod scene;
+mod siblings;
 mod words;
 
 use super::maker::*;
@@ -46,6 +47,7 @@ pub fn all(random: &mut Random) -> Shelf {
         shelf.add(format!("at random {turn}"), at_random(random, 3000));
     }
     holes::every(random, &mut shelf);
+    siblings::every(random, &mut shelf);
     shelf
 }
 

@@ -15,13 +15,13 @@ enum-known-event c = search needs
 supplied-requires : tie.Need-supplied-requires
 supplied-requires c κs = search needs
 
-cast-t10 : tie.Need-cast-t10
-cast-t10 c = search needs
+cast-t11 : tie.Need-cast-t11
+cast-t11 c = search needs
 
-add-t11 : tie.Need-add-t11
-add-t11 c =
+add-t12 : tie.Need-add-t12
+add-t12 c =
     let a = c .before .before .before .before .before .before .args in
-    omega (arith, supplied-most (a .used .far + c .before .before .before .before .event .given .0 .0) (a .header .far) (a .lengths .far) _ (c .before .before .supplied .ensures) (c .before .if1 .taken))
+    omega (arith, supplied-most (a .header .form) (a .used .far + c .before .before .before .before .event .given .0 .0) (a .header .far) (a .lengths .far) _ (c .before .before .supplied .ensures) (c .before .if1 .taken))
 
 enum-known-event-2 : tie.Need-enum-known-event-2
 enum-known-event-2 c = search needs
@@ -29,13 +29,13 @@ enum-known-event-2 c = search needs
 supplied-requires-2 : tie.Need-supplied-requires-2
 supplied-requires-2 c κs = search needs
 
-cast-t15 : tie.Need-cast-t15
-cast-t15 c = search needs
+cast-t16 : tie.Need-cast-t16
+cast-t16 c = search needs
 
-add-t16 : tie.Need-add-t16
-add-t16 c =
+add-t17 : tie.Need-add-t17
+add-t17 c =
     let a = c .before .before .before .before .before .before .args in
-    omega (arith, supplied-most (a .used .near + c .before .before .before .before .event2 .given .0 .0) (a .header .near) (a .lengths .near) _ (c .before .before .supplied2 .ensures) (c .before .if2 .taken))
+    omega (arith, supplied-most (a .header .form) (a .used .near + c .before .before .before .before .event2 .given .0 .0) (a .header .near) (a .lengths .near) _ (c .before .before .supplied2 .ensures) (c .before .if2 .taken))
 
 enum-told : tie.Need-enum-told
 enum-told c = search needs
@@ -101,12 +101,12 @@ admit-spec =
     (tie.spec
     enum-known-event
     supplied-requires
-    cast-t10
-    add-t11
+    cast-t11
+    add-t12
     enum-known-event-2
     supplied-requires-2
-    cast-t15
-    add-t16
+    cast-t16
+    add-t17
     enum-told
     enum-told-2
     enum-told-3

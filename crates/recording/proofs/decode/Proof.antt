@@ -1,83 +1,62 @@
--- `recording::decode` meets its contract: what the loop passed are the samples, and the rest of the buffer is as it was.
+-- `recording::decode` meets its contract: form by form.
 use borrow.Author.Needs.{needs}
-use native.Mathlib.Omega.{arith}
-use mathlib.Core.Path.{_≡_, refl}
-use Prim.Native.Nat.{_-_, _≤_}
-use lib.ListN.{length, take, drop, length-set}
-use Rattle.recording.specs.Samples.{samplesIn}
-use Rattle.recording.proofs.Laws.{decode-more, rest-more, decode-all}
+use mathlib.Core.Path.{_∙_}
+use Rattle.recording.proofs.Laws.{decoded-alike}
 use Rattle.recording.proofs.decode.Statement.{statement}
 use Rattle.recording.proofs.decode.Tie as tie
 
-abbrev Inv-loop : tie.InvT-loop
-Inv-loop s out₀ n i₀ out i =
-    (i ≤ n) × (length out ≡ length out₀) × (take i out ≡ samplesIn s i) × (drop i out ≡ drop i out₀)
+enum-told : tie.Need-enum-told
+enum-told c = search needs
 
-abbrev μ-loop : tie.MeasureT-loop
-μ-loop s out₀ n i₀ out i = n - i
+decode-floats-requires : tie.Need-decode-floats-requires
+decode-floats-requires c κs = search needs
 
-smaller-requires : tie.Need-smaller-requires Inv-loop μ-loop
-smaller-requires c κs = search needs
+enum-told-2 : tie.Need-enum-told-2
+enum-told-2 c = search needs
 
-loop-holds : tie.Need-loop-holds Inv-loop μ-loop
-unfolding samplesIn
-loop-holds c = (search needs, refl, refl, refl)
+decode-floats-requires-2 : tie.Need-decode-floats-requires-2
+decode-floats-requires-2 c κs = search needs
 
-mul-u32-at : tie.Need-mul-u32-at Inv-loop μ-loop
-mul-u32-at c = search needs
+enum-told-3 : tie.Need-enum-told-3
+enum-told-3 c = search needs
 
-u32-at-requires : tie.Need-u32-at-requires Inv-loop μ-loop
-u32-at-requires c κs = search needs
+decode-shorts-requires : tie.Need-decode-shorts-requires
+decode-shorts-requires c κs = search needs
 
-float32-requires : tie.Need-float32-requires Inv-loop μ-loop
-float32-requires c κs = search needs
+same-length : tie.Need-same-length
+same-length c = search needs
 
-mul-out : tie.Need-mul-out Inv-loop μ-loop
-mul-out c = search needs
+returns : tie.Need-returns
+returns c = rw (c .before .before .before .before .enum-told .given .1) (c .before .before .decode-floats .ensures)
 
-slice-write-out : tie.Need-slice-write-out Inv-loop μ-loop
-slice-write-out c = search needs
+same-length-2 : tie.Need-same-length-2
+same-length-2 c = search needs
 
-add-i : tie.Need-add-i Inv-loop μ-loop
-add-i c = search needs
+returns-2 : tie.Need-returns-2
+returns-2 c =
+    let a = c .before .before .before .before .before .before .before .before .args in
+    let e = c .before .before .decode-floats2 .ensures in
+    rw (c .before .before .before .before .enum-told2 .given .1) (e .0, e .1 ∙ decoded-alike (a .s .now) (a .out .now))
 
-loop-less : tie.Need-loop-less Inv-loop μ-loop
-loop-less c = omega arith
+same-length-3 : tie.Need-same-length-3
+same-length-3 c = search needs
 
-loop-again : tie.Need-loop-again Inv-loop μ-loop
-loop-again c =
-    let now = c .before .before .before .loop in
-    let from = c .before .before .before .before .before .before .before .args in (
-      omega arith,
-      simp length-set (now .inv .1),
-      decode-more (from .s .now) _ _ _ (omega arith) (now .inv .2) (rw (c .before .u32-at .ensures) at (c .float32 .ensures)),
-      rest-more (now .out) (from .out .now) (now .i) _ (now .inv .3),
-    )
-
-same-length : tie.Need-same-length Inv-loop μ-loop
-same-length c = c .before .loop .inv .1
-
-returns : tie.Need-returns Inv-loop μ-loop
-returns c =
-    let end = c .before .loop in
-    let from = c .before .before .before .before .before .args in
-    decode-all (from .s .now) (end .out) (from .out .now) _ (end .i) (c .before .before .smaller .ensures) (end .inv .0) (c .loop-test .left) (end .inv .2) (end .inv .3)
+returns-3 : tie.Need-returns-3
+returns-3 c = rw (c .before .before .before .before .enum-told3 .given .1) (c .before .before .decode-shorts .ensures)
 
 pub decode-spec : {M : Type 1} → statement M
 decode-spec =
     tie.close
     (tie.spec
-    Inv-loop
-    μ-loop
-    smaller-requires
-    loop-holds
-    mul-u32-at
-    u32-at-requires
-    float32-requires
-    mul-out
-    slice-write-out
-    add-i
-    loop-less
-    loop-again
+    enum-told
+    decode-floats-requires
+    enum-told-2
+    decode-floats-requires-2
+    enum-told-3
+    decode-shorts-requires
     same-length
-    returns)
+    returns
+    same-length-2
+    returns-2
+    same-length-3
+    returns-3)

@@ -4,6 +4,7 @@ use Rattle.replay_entry.proofs.far_turn.Statement.{statement}
 use Rattle.replay_entry.proofs.far_turn.Tie as tie
 use mathlib.Core.Path.{sym, _∙_}
 use native.Mathlib.Omega.{arith}
+use Rattle.replay_near.proofs.Decoding.{bytes-least}
 use Rattle.replay_entry.proofs.Entries.{supply-there, far-pushed, far-awaited, far-lacking}
 
 of-requires : tie.Need-of-requires
@@ -15,7 +16,7 @@ enum-told c = search needs
 push-far-requires : tie.Need-push-far-requires
 push-far-requires c κs =
     let at-start = c .before .before .before .before .before .before .before .before in
-    let w = supply-there _ _ _ _ (sym (c .before .before .before .before .of .ensures) ∙ c .before .before .enum-told .given .1) in (at-start .pre .0, record { there = w .1; few = at-start .pre .1; room = omega (arith, w .1, at-start .pre .1, at-start .pre .2) }, omega (arith, w .0, at-start .fits, at-start .good))
+    let w = supply-there _ _ _ _ _ (sym (c .before .before .before .before .of .ensures) ∙ c .before .before .enum-told .given .1) in (at-start .pre .0, record { there = w .1; few = at-start .pre .1; room = omega (arith, w .1, bytes-least (at-start .args .header .form) (at-start .args .count), at-start .pre .1, at-start .pre .2) }, omega (arith, w .0, at-start .fits, at-start .good))
 
 enum-told-2 : tie.Need-enum-told-2
 enum-told-2 c = search needs

@@ -13,7 +13,7 @@ enum-told : tie.Need-enum-told
 enum-told c = search needs
 
 enter-near-requires : tie.Need-enter-near-requires
-enter-near-requires c κs = let w = supply-there _ _ _ _ (sym (c .before .before .of .ensures) ∙ c .enum-told .given .1) in (c .before .before .before .before .pre .0, c .before .before .before .before .pre .1, omega (arith, w .0, c .before .before .before .before .fits, c .before .before .before .before .good))
+enter-near-requires c κs = let w = supply-there _ _ _ _ _ (sym (c .before .before .of .ensures) ∙ c .enum-told .given .1) in (c .before .before .before .before .pre .0, c .before .before .before .before .pre .1, omega (arith, w .0, c .before .before .before .before .fits, c .before .before .before .before .good))
 
 enum-told-2 : tie.Need-enum-told-2
 enum-told-2 c = search needs

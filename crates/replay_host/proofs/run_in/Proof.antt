@@ -7,11 +7,8 @@ use Rattle.replay_host.proofs.run_in.Tie as tie
 fresh-requires : tie.Need-fresh-requires
 fresh-requires c κs = search needs
 
-header-window-requires : tie.Need-header-window-requires
-header-window-requires c κs = search needs
-
-read-all-requires : tie.Need-read-all-requires
-read-all-requires c κs = search needs
+read-requires : tie.Need-read-requires
+read-requires c κs = search needs
 
 same-length : tie.Need-same-length
 same-length c = search needs
@@ -19,14 +16,14 @@ same-length c = search needs
 returns : tie.Need-returns
 returns c = search needs
 
-header-in-requires : tie.Need-header-in-requires
-header-in-requires c κs = search needs
+opened-requires : tie.Need-opened-requires
+opened-requires c κs = search needs
 
 enum-told : tie.Need-enum-told
 enum-told c = search needs
 
 unopened-requires : tie.Need-unopened-requires
-unopened-requires c κs = c .before .before .before .before .before .before .before .before .before .before .before .fresh .ensures .0 _ (c .before .before .before .before .before .before .before .before .read-all .kept .1 .0 ∙ c .before .before .before .before .before .before .before .before .before .before .before .before .before .pre)
+unopened-requires c κs = c .before .before .before .before .before .before .before .before .before .before .fresh .ensures .0 _ (c .before .before .before .before .before .before .before .before .read .kept .1 .1 .0 ∙ c .before .before .before .before .before .before .before .before .before .before .before .before .pre)
 
 enum-known-header : tie.Need-enum-known-header
 enum-known-header c = search needs
@@ -34,8 +31,8 @@ enum-known-header c = search needs
 announced-requires : tie.Need-announced-requires
 announced-requires c κs = search needs
 
-opened-requires : tie.Need-opened-requires
-opened-requires c κs = (c .announced .ensures, c .before .before .before .before .before .before .before .before .before .before .before .before .fresh .ensures .0)
+opened-requires-2 : tie.Need-opened-requires-2
+opened-requires-2 c κs = (c .announced .ensures, c .before .before .before .before .before .before .before .before .before .before .before .fresh .ensures .0)
 
 same-length-2 : tie.Need-same-length-2
 same-length-2 c = search needs
@@ -54,16 +51,15 @@ run-in-spec =
     tie.close
     (tie.spec
     fresh-requires
-    header-window-requires
-    read-all-requires
+    read-requires
     same-length
     returns
-    header-in-requires
+    opened-requires
     enum-told
     unopened-requires
     enum-known-header
     announced-requires
-    opened-requires
+    opened-requires-2
     same-length-2
     returns-2
     same-length-3

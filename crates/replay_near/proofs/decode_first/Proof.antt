@@ -4,9 +4,6 @@ use Rattle.replay_near.proofs.decode_first.Statement.{statement}
 use Rattle.replay_near.proofs.decode_first.Tie as tie
 use Rattle.replay_near.proofs.Decoding.{decode-filled}
 
-mul-decode : tie.Need-mul-decode
-mul-decode c = search needs
-
 sub-decode : tie.Need-sub-decode
 sub-decode c = search needs
 
@@ -16,15 +13,6 @@ part-decode-start c = search needs
 part-decode-end : tie.Need-part-decode-end
 part-decode-end c = search needs
 
-sub-decode-2 : tie.Need-sub-decode-2
-sub-decode-2 c = search needs
-
-part-decode-start-2 : tie.Need-part-decode-start-2
-part-decode-start-2 c = search needs
-
-part-decode-end-2 : tie.Need-part-decode-end-2
-part-decode-end-2 c = search needs
-
 decode-requires : tie.Need-decode-requires
 decode-requires c κs = search needs
 
@@ -33,20 +21,16 @@ same-length c = search needs
 
 returns : tie.Need-returns
 returns c =
-    let at-start = c .before .before .before .before .before .before .before in
-    decode-filled (at-start .args .bytes .now) (at-start .args .n) (at-start .args .samples .now) _ (at-start .pre) (c .before .before .decode .ensures .1)
+    let at-start = c .before .before .before .before .before .before in
+    decode-filled (at-start .args .form) (at-start .args .bytes .now) (at-start .args .n) (at-start .args .samples .now) _ (at-start .pre) (c .before .before .decode .ensures .1)
 
 pub decode-first-spec : {M : Type 1} → statement M
 decode-first-spec =
     tie.close
     (tie.spec
-    mul-decode
     sub-decode
     part-decode-start
     part-decode-end
-    sub-decode-2
-    part-decode-start-2
-    part-decode-end-2
     decode-requires
     same-length
     returns)

@@ -22,7 +22,7 @@ near-line-requires c κs = search needs
 same-length : tie.Need-same-length
 same-length c =
     let at-decode-first = c .before .before .before .before .before .before .before .before .before .before .before .before .before .before .before .before .before .before .before .before .before .before .before in
-    at-decode-first .decode-first .kept .1 .1 .0
+    at-decode-first .decode-first .kept .1 .1 .1 .0
 
 same-length-2 : tie.Need-same-length-2
 same-length-2 c = search needs
@@ -46,7 +46,7 @@ returns : tie.Need-returns
 returns c =
     let ran = c .before .before .before .before .before .before .before .before .before .before .before .before in
     let decoded = ran .before .before .before .before .before .before .before .before .before .before .before in
-    rw (first-filled _ _ _ _ (decoded .decode-first .ensures)) at (ran .near-line .ensures)
+    rw (first-filled _ _ _ _ _ (decoded .decode-first .ensures)) at (ran .near-line .ensures)
 
 pub near-cut-spec : {M : Type 1} → statement M
 near-cut-spec =

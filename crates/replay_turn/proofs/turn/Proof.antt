@@ -1,5 +1,8 @@
 -- `turn` meets its contract: stage by stage.
 use borrow.Author.Needs.{needs}
+use Rattle.recording.specs.Samples.{bytesOf}
+use Rattle.recording.proofs.Forms.{bytes-cancel}
+use Rattle.replay_near.proofs.Decoding.{bytes-least}
 use Rattle.replay_turn.proofs.turn.Statement.{statement}
 use Rattle.replay_turn.proofs.turn.Tie as tie
 use mathlib.Core.Path.{sym, _∙_}
@@ -67,7 +70,11 @@ near-turn-requires c κs =
     let at-if2 = c .before .before .before .before .before .before .before .before in
     let at-lacks = at-if2 .before in
     let at-start = at-lacks .before .before .before .before .before .before .before .before .before .before .before .before .before .before .before .before in
-    let m = ltb-false (min (length (at-start .args .near .now)) 16384) _ (sym (at-lacks .lacks .ensures) ∙ at-if2 .if2 .left) in record { there = omega (arith, m); few = omega (arith, m); room = omega (arith, m, at-start .pre .1) }
+    let form = at-start .args .header .form in
+    let m = ltb-false (min (length (at-start .args .near .now)) (bytesOf form 4096)) _ (sym (at-lacks .lacks .ensures) ∙ at-if2 .if2 .left) in
+    let left = at-lacks .before .before .stage .given .0 .1 .1 .0 in
+    let few = bytes-cancel form left 4096 (omega (arith, m)) in
+    record { there = omega (arith, m); few = few; room = omega (arith, m, few, bytes-least form left, at-start .pre .1) }
 
 enum-told-3 : tie.Need-enum-told-3
 enum-told-3 c = search needs

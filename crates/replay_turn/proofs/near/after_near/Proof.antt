@@ -6,14 +6,18 @@ use Rattle.replay_turn.proofs.near.after_near.Tie as tie
 stage-at-requires : tie.Need-stage-at-requires
 stage-at-requires c κs = search needs
 
-sub-t11 : tie.Need-sub-t11
-sub-t11 c = search needs
+cast-bytes-of : tie.Need-cast-bytes-of
+cast-bytes-of c = search needs
 
-mul-t12 : tie.Need-mul-t12
-mul-t12 c = search needs
+sub-bytes-of : tie.Need-sub-bytes-of
+sub-bytes-of c = search needs
+
+bytes-of-requires : tie.Need-bytes-of-requires
+bytes-of-requires c κs = search needs
 
 returns : tie.Need-returns
-returns c = rw (c .stage-at .ensures)
+returns c = rw (c .before .stage-at .ensures, c .bytes-of .ensures)
 
 pub after-near-spec : {M : Type 1} → statement M
-after-near-spec = tie.close (tie.spec stage-at-requires sub-t11 mul-t12 returns)
+after-near-spec =
+    tie.close (tie.spec stage-at-requires cast-bytes-of sub-bytes-of bytes-of-requires returns)

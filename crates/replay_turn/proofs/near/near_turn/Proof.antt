@@ -17,7 +17,7 @@ after-near-requires c κs =
     let cut = c .before .before .before .before .before .before .before .before .before .before .before .before .before .before in
     let start = cut .before .before .before .before .before .before .before .before .before .before .before .before .before .before .before .before .before in
     let a = start .args in
-    (omega (arith, cut-within _ _ _ _ _ _ _ (cut .near-cut .ensures), samples-length (a .near .now) (a .left)), start .pre .few)
+    (omega (arith, cut-within _ _ _ _ _ _ _ (cut .near-cut .ensures), samples-length (a .form) (a .near .now) (a .left)), start .pre .few)
 
 same-length : tie.Need-same-length
 same-length c = search needs
@@ -47,8 +47,8 @@ returns c =
     let start = cut .before .before .before .before .before .before .before .before .before .before .before .before .before .before .before .before .before in
     let a = start .args in
     rw (c .after-near .ensures)
-    (near-turned (a .number) (a .event) (a .left) (cut .near-cut .result) _
-    (nearCut (a .event) (a .session) (lent (a .envelope .now) (a .levels .now) (a .window .now) (a .prefix .now) (a .squares .now) (a .scores .now) (a .«lag-sums» .now)) (samplesIn (a .near .now) (a .left)) (a .index))
+    (near-turned (a .form) (a .number) (a .event) (a .left) (cut .near-cut .result) _
+    (nearCut (a .event) (a .session) (lent (a .envelope .now) (a .levels .now) (a .window .now) (a .prefix .now) (a .squares .now) (a .scores .now) (a .«lag-sums» .now)) (samplesIn (a .form) (a .near .now) (a .left)) (a .index))
     (cut .near-cut .ensures))
 
 pub near-turn-spec : {M : Type 1} → statement M

@@ -1,0 +1,1 @@
+// No code: what converting a recording has to do with its log.
