@@ -72,7 +72,7 @@ pub struct Passed {
     pub index: u64,
 }
 
-fn later(index: u64, n: usize) -> u64
+pub fn later(index: u64, n: usize) -> u64
     ensures { λ r. ⌜ r ≡ min (index + n) (2 ^ 64 - 1) ⌝ }
 {
     if index < 0xffff_ffff_ffff_ffff - n as u64 {

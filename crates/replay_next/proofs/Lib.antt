@@ -1,4 +1,3 @@
-pub mod Within
 pub mod Taking
 pub mod Determined
 pub mod Calling

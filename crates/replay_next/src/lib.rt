@@ -67,7 +67,7 @@ fn turns(
         let e = used.events;
         let f = used.far;
         let n = used.near;
-        let t = replay_turn::turn(
+        let t = replay_runs::advance(
             header,
             at,
             &events[e..],

@@ -17,15 +17,9 @@ use Rattle.recording.specs.declared.Header.{Header}
 use Rattle.recording.specs.declared.Entry.{Entry}
 use Rattle.replay.specs.Events.{stepped}
 use Rattle.replay.specs.declared.Session.{Session}
+pub use Rattle.replay_stream.specs.Stream.{toGo}
 use Rattle.replay_stream.specs.Stream.{Stage, Opening, Events, Midway, Closed, Place, Hand, beyond, short, Silent, Next, told, noLines, nearCut, midway, nearTurn, Need, NoSamples, FarSamples, NearSamples, needOf, awaits, handed, stageAfter, seen, entryTurn, turnAt, turn, silent, turns, nextLine}
 use Rattle.replay_stream.proofs.Cutting.{cuts}
-
--- how many silent turns there can be from here on
-abbrev pub toGo : Header → ℕ → Stage → ℕ
-toGo h n Opening = 0
-toGo h n Events = 2 * (h .events - n)
-toGo h n (Midway e index left) = 2 * (h .events - n) + 1
-toGo h n Closed = 0
 
 told-none : (ls : List Line) → silent (told ls) ≡ true → noLines ls ≡ true
 told-none [] e = refl

@@ -230,3 +230,10 @@ turns (suc more) h p b hand =
 -- an event takes at most two turns
 unfoldable pub nextLine : Header → Place → Buffers → Hand → Next
 nextLine h p b hand = turns (2 * (h .events - p .number) + 1) h p b hand
+
+-- how many silent turns there can be from here on
+abbrev pub toGo : Header → ℕ → Stage → ℕ
+toGo h n Opening = 0
+toGo h n Events = 2 * (h .events - n)
+toGo h n (Midway e index left) = 2 * (h .events - n) + 1
+toGo h n Closed = 0

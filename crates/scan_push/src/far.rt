@@ -154,8 +154,8 @@ fn run_length(g: Geometry, f: Far, left: usize) -> usize
     left
 }
 
-// A push goes run by run.
-fn hear_all(slack: u32, g: Geometry, far: Far, envelope: &mut [f32], samples: &[f32]) -> Far
+// A push goes run by run, in a state that was judged.
+pub fn hear_all(slack: u32, g: Geometry, far: Far, envelope: &mut [f32], samples: &[f32]) -> Far
     requires { ⌜ HearsAll slack g far (now envelope) (now samples) ⌝ }
     ensures far { λ r. ⌜ r ≡ hearAll slack g (record { far = far; envelope = now (envelope .entry) }) (now (samples .entry)) .far ⌝ }
     ensures envelope { λ r. ⌜ now (envelope .exit) ≡ hearAll slack g (record { far = far; envelope = now (envelope .entry) }) (now (samples .entry)) .envelope ⌝ }

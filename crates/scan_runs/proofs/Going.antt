@@ -1,6 +1,6 @@
 -- A run under way, and the runs that end at once or go through.
 use Prim.Native.Nat.{ℕ, _+_, _-_, _≤_, _<_}
-use mathlib.Core.Path.{_≡_, refl, sym, ap, _∙_}
+use mathlib.Core.Path.{_≡_, refl, sym, ap, _∙_, subst}
 use mathlib.Core.List.{List, [], _∷_, _++_}
 use mathlib.Core.Bool.{Bool, true, false, not}
 use native.Mathlib.Nat.{add-assoc, add-zero, zero-add}
@@ -154,3 +154,22 @@ module _ (s₀ : Scan) (levels₀ xs : List Float) (first : ℕ) where
               ready = keeps now levels (k .ready) (at xs i) index h;
               whole = e ∙ ap (further i) (sym (goes-on now levels (k .ready) (at xs i) index h (drop (i + 1) xs))) ∙ rest;
             })
+
+-- ---- what a run leaves
+
+pub ran-steady : (xs : List Float) (s : Scan) (levels : List Float) (index : ℕ) → Steady s levels → Steady (ran s levels xs index .scan) (ran s levels xs index .levels)
+unfolding ran
+ran-steady [] s levels index k = k
+ran-steady (x ∷ xs) s levels index k =
+    let n = afterSample (s .geometry) (record { near = s .near; levels = levels }) x index in
+    go (passable (s .geometry) (s .near) x index) refl (λ h. ran-steady xs (withNear s (n .near)) (n .levels) (index + 1) (keeps s levels k x index h))
+  where
+    S : Run → Type 0
+    S r = Steady (r .scan) (r .levels)
+
+    n : Seen
+    n = afterSample (s .geometry) (record { near = s .near; levels = levels }) x index
+
+    go : (t : Bool) → passable (s .geometry) (s .near) x index ≡ t → (passable (s .geometry) (s .near) x index ≡ true → S (ran (withNear s (n .near)) (n .levels) xs (index + 1))) → S (ran s levels (x ∷ xs) index)
+    go true h rest = subst S (sym (goes-on s levels k x index h xs)) (rest h)
+    go false h rest = subst S (sym (stays s levels k x index xs h)) k

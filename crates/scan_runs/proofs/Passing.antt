@@ -133,7 +133,7 @@ leaves-table true s t u = (refl, refl)
 leaves-table false s t u = (refl, refl)
 
 module _ (s : Scan) (levels : List Float) (k : Steady s levels) where
-  unfilled : full (s .geometry) (s .near) ≡ false
+  pub unfilled : full (s .geometry) (s .near) ≡ false
   unfilled = ne-eqb _ _ (λ (e : s .near .len ≡ s .geometry .frame). omega (arith, k .room))
 
   near-is : nearRule (s .geometry) (s .near) ≡ finite (s .near .sum)
@@ -164,6 +164,10 @@ module _ (s : Scan) (levels : List Float) (k : Steady s levels) where
   first-is : firstRefusals s (eqb (length levels) (nearLen (due s))) ≡ require (finite (s .near .sum)) 3 none
   unfolding firstRefusals
   first-is = pick-true _ _ _ (k .inside) ∙ pick-true _ _ _ (k .fit) ∙ ap (λ (z : Bool). require z 3 none) rules-are
+
+  -- with a running sum that is finite, 1 to 3 refuse nothing
+  pub judged-again : finite (s .near .sum) ≡ true → firstRefusals s true ≡ 0
+  judged-again h = ap (firstRefusals s) (sym (k .fit)) ∙ first-is ∙ pick-true _ _ _ h
 
   module _ (x : Float) (index : ℕ) where
     -- the near side as the sample finds it

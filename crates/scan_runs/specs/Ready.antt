@@ -13,7 +13,9 @@ use Rattle.scan.specs.Bins.{nearLen}
 use Rattle.scan.specs.State.{finished, full, idle, due, firstRefusals}
 use Rattle.scan.specs.Blocks.{Seen, gather, dropped, heldAt, summed}
 use Rattle.scan.specs.declared.Geometry.{Geometry}
+use Rattle.scan.specs.declared.Far.{Far}
 use Rattle.scan.specs.declared.Near.{Near}
+use Rattle.scan.specs.declared.Verdict.{Verdict}
 use Rattle.scan.specs.declared.Scan.{Scan}
 
 -- the next sample that is taken completes the frame's last bin
@@ -61,3 +63,13 @@ pub record Open (s : Scan) (levels : List Float) : Type 0 where
   pub judged : firstRefusals s (eqb (length levels) (nearLen (due s))) ≡ 0
   pub unfinished : finished (s .verdict) ≡ false
   pub unfilled : full (s .geometry) (s .near) ≡ false
+
+-- ---- the near side alone, of some state in which a sample can be taken
+
+abbrev pub scanOf : Geometry → Far → Near → Verdict → Scan
+scanOf g f n v = record { geometry = g; far = f; near = n; verdict = v }
+
+pub record OpenNear (g : Geometry) (n : Near) (levels : List Float) : Type 0 where
+  pub far : Far
+  pub verdict : Verdict
+  pub opened : Open (scanOf g far n verdict) levels

@@ -12,13 +12,21 @@ ghost use lib.ListN.{length};
 ghost use mathlib.Core.Bool.{false};
 ghost use Rattle.scan_push.specs.Ready.{Gathers};
 ghost use Rattle.scan.specs.Blocks.{dropped, heldAt};
+ghost use Rattle.scan.specs.declared.Far.{Far};
+ghost use Rattle.scan.specs.declared.Verdict.{Verdict};
 ghost use Rattle.scan_runs.specs.Runs.{Run, ran};
 ghost use Rattle.scan_runs.specs.Ready;
-ghost use Rattle.scan_runs.specs.Ready.{afterSample, totalOf, stretched, Reaches, Open};
+ghost use Rattle.scan_runs.specs.Ready.{afterSample, totalOf, stretched, Reaches, Open, scanOf, OpenNear};
 
 // The state after a run, and how many samples passed.
 pub struct Ran {
     pub scan: Scan,
+    pub passed: usize,
+}
+
+// The near side after a run, and how many samples passed.
+pub struct Walked {
+    pub near: Near,
     pub passed: usize,
 }
 
@@ -124,13 +132,12 @@ fn reach(g: Geometry, n: Near, index: u64, left: usize) -> usize
 
 // ---- the run
 
-// The samples one after the other, in a state that was judged.
-fn walk(scan: Scan, levels: &mut [f32], samples: &[f32], first: u64) -> Ran
-    requires { ⌜ Open scan (now levels) ⌝ }
-    ensures { λ r. ⌜ _≡_ {A = Run} (record { scan = r .scan; levels = now (levels .exit); passed = r .passed }) (ran scan (now (levels .entry)) (now (samples .entry)) first) ⌝ }
+// The samples one after the other, over the near side alone of a state that was judged.
+pub fn walk(g: Geometry, before: Near, levels: &mut [f32], samples: &[f32], first: u64) -> Walked
+    requires { ⌜ OpenNear g before (now levels) ⌝ }
+    ensures { λ r. ⌜ ((f : Far) (v : Verdict) → Open (scanOf g f before v) (now (levels .entry)) → _≡_ {A = Run} (record { scan = scanOf g f (r .near) v; levels = now (levels .exit); passed = r .passed }) (ran (scanOf g f before v) (now (levels .entry)) (now (samples .entry)) first)) ⌝ }
 {
-    let g = scan.geometry;
-    let mut near = scan.near;
+    let mut near = before;
     let mut index = first;
     let mut i = 0;
     while i < samples.len() {
@@ -142,19 +149,13 @@ fn walk(scan: Scan, levels: &mut [f32], samples: &[f32], first: u64) -> Ran
         i += taken as usize;
         let x = samples[i];
         if !passable(g, near, x, index) {
-            return Ran {
-                scan: parts::with_near(scan, near),
-                passed: i,
-            };
+            return Walked { near, passed: i };
         }
         near = step(g, near, levels, x, index);
         index += 1;
         i += 1;
     }
-    Ran {
-        scan: parts::with_near(scan, near),
-        passed: i,
-    }
+    Walked { near, passed: i }
 }
 
 // Near samples of consecutive indices, from `first` on.
@@ -179,5 +180,10 @@ pub fn push_near_run(scan: Scan, levels: &mut [f32], samples: &[f32], first: u64
     if near.len == g.frame {
         return Ran { scan, passed: 0 };
     }
-    walk(scan, levels, samples, first)
+    let walked = walk(g, near, levels, samples, first);
+    let after = walked.near;
+    Ran {
+        scan: parts::with_near(scan, after),
+        passed: walked.passed,
+    }
 }

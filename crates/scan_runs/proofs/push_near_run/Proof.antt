@@ -7,6 +7,7 @@ use borrow.Author.Tests.{eq-eqb, ne-eqb}
 use Rattle.scan.specs.Bins.{nearLen}
 use Rattle.scan.specs.State.{firstRefusals, due}
 use Rattle.scan.specs.declared.Geometry.{Geometry}
+use Rattle.scan_runs.specs.Ready.{Open}
 use Rattle.scan_runs.proofs.Going.{not-judged, waits, ignored}
 use Rattle.scan_runs.proofs.push_near_run.Statement.{statement}
 use Rattle.scan_runs.proofs.push_near_run.Tie as tie
@@ -47,20 +48,29 @@ returns-3 c =
     let e = waits (a .scan) (a .levels .now) (a .samples .now) (a .first) (sym (two .before .finished .ensures) ∙ two .if2 .left) (eq-eqb _ _ (c .if3 .taken)) in
     (rw e, rw e)
 
-walk-requires : tie.Need-walk-requires
-walk-requires c κs =
+-- a sample can be taken
+opened : (c : tie.After-walk-arg) → let a = c .before .before .before .before .before .before .before .before .before .before .before .before .before .before .before .args in Open (a .scan) (a .levels .now)
+opened c =
     let three = c .before in
     let two = three .before .before .before in
     let one = two .before .before in
     record { judged = sym (first (one .before)) ∙ one .if1 .left; unfinished = sym (two .before .finished .ensures) ∙ two .if2 .left; unfilled = ne-eqb _ _ (three .if3 .left) }
+
+walk-requires : tie.Need-walk-requires
+walk-requires c κs = let a = c .before .before .before .before .before .before .before .before .before .before .before .before .before .before .before .args in record { far = a .scan .far; verdict = a .scan .verdict; opened = opened c }
+
+with-near-requires : tie.Need-with-near-requires
+with-near-requires c κs = search needs
 
 same-length : tie.Need-same-length
 same-length c = search needs
 
 returns-4 : tie.Need-returns-4
 returns-4 c =
-    let e = c .before .before .walk .ensures in
-    (rw (← e), rw (← e))
+    let w = c .before .before .before .before in
+    let a = w .before .before .before .before .before .before .before .before .before .before .before .before .before .before .before .before .args in
+    let e = w .walk .ensures (a .scan .far) (a .scan .verdict) (opened (w .before)) in
+    (rw (c .with-near .ensures, ← e), rw (← e))
 
 pub push-near-run-spec : {M : Type 1} → statement M
 push-near-run-spec =
@@ -73,5 +83,6 @@ push-near-run-spec =
     returns-2
     returns-3
     walk-requires
+    with-near-requires
     same-length
     returns-4)

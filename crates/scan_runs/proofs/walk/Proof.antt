@@ -6,28 +6,34 @@ use lib.ListN.{length, take, drop, length-take}
 use borrow.Author.Needs.{needs}
 use borrow.Author.Tests.{not-true, not-false}
 use Rattle.answers.specs.Numbers.{limit}
+use Rattle.scan.specs.declared.Far.{Far}
+use Rattle.scan.specs.declared.Scan.{Scan}
+use Rattle.scan.specs.declared.Verdict.{Verdict}
+use Rattle.scan_runs.specs.Ready.{Open, scanOf}
 use Rattle.scan_runs.proofs.Passing.{bounded}
 use Rattle.scan_runs.proofs.Going.{Going, Leap, starts, leaps, through, ends, below, gathers-if, goes}
 use Rattle.scan_runs.proofs.walk.Statement.{statement}
 use Rattle.scan_runs.proofs.walk.Tie as tie
 
 abbrev Inv-loop : tie.InvT-loop
-Inv-loop scan levels₀ samples first g near₀ index₀ i₀ levels near index i = (length levels ≡ length levels₀) × Going scan levels₀ samples first near levels index i × (index < 2 ^ 64)
+Inv-loop g levels₀ samples first near₀ index₀ i₀ levels near index i =
+    (length levels ≡ length levels₀) × ((f : Far) (v : Verdict) → Open (scanOf g f near₀ v) levels₀ → Going (scanOf g f near₀ v) levels₀ samples first near levels index i) × (index < 2 ^ 64)
 
 abbrev μ-loop : tie.MeasureT-loop
-μ-loop scan levels₀ samples first g near₀ index₀ i₀ levels near index i = length samples - i
+μ-loop g levels₀ samples first near₀ index₀ i₀ levels near index i = length samples - i
 
 loop-holds : tie.Need-loop-holds Inv-loop μ-loop
 loop-holds c =
-    let k = c .before .before .before .before in
-    (refl, starts (k .args .scan) (k .args .levels .now) (k .args .samples .now) (k .args .first) (k .pre), omega arith)
+    let k = c .before .before in
+    (refl, λ f v o. starts (scanOf (k .args .g) f (k .args .before) v) (k .args .levels .now) (k .args .samples .now) (k .args .first) o, omega arith)
 
 sub-reach : tie.Need-sub-reach Inv-loop μ-loop
 sub-reach c = omega arith
 
 reach-requires : tie.Need-reach-requires Inv-loop μ-loop
 reach-requires c κs =
-    let k = c .before .loop .inv .1 .ready in
+    let o = c .before .before .before .before .pre in
+    let k = c .before .loop .inv .1 (o .far) (o .verdict) (o .opened) .ready in
     (k .partial, bounded _ _ k .decimation, omega arith)
 
 add-end : tie.Need-add-end Inv-loop μ-loop
@@ -48,8 +54,9 @@ part-stretch-end c = omega (arith, c .reach .ensures .within)
 stretch-requires : tie.Need-stretch-requires Inv-loop μ-loop
 stretch-requires c κs =
     let l = c .before .before .before .loop in
-    let samples = c .before .before .before .before .before .before .before .before .args .samples .now in
-    let k = l .inv .1 .ready in
+    let start = c .before .before .before .before .before .before in
+    let samples = start .args .samples .now in
+    let k = l .inv .1 (start .pre .far) (start .pre .verdict) (start .pre .opened) .ready in
     let r = c .before .reach .ensures in
     let m = c .before .reach .result in
     let size : length (take (l .i + m - l .i) (drop (l .i) samples)) ≤ m = omega (arith, length-take (l .i + m - l .i) (drop (l .i) samples)) in (
@@ -59,17 +66,26 @@ stretch-requires c κs =
 
 -- the samples that were summed at once
 leap : (c : tie.After-stretch Inv-loop μ-loop)
-    → let l = c .before .before .before .before .loop in let a = c .before .before .before .before .before .before .before .before .before .args in Leap (a .scan) (a .levels .now) (a .samples .now) (a .first) (l .near) (l .levels) (l .index) (l .i) (c .stretch .result)
-leap c =
+    → let l = c .before .before .before .before .loop in
+    let a = c .before .before .before .before .before .before .before .args in
+    (f : Far) (v : Verdict) → Open (scanOf (a .g) f (a .before) v) (a .levels .now) → Leap (scanOf (a .g) f (a .before) v) (a .levels .now) (a .samples .now) (a .first) (l .near) (l .levels) (l .index) (l .i) (c .stretch .result)
+leap c f v o =
     let l = c .before .before .before .before .loop in
-    let a = c .before .before .before .before .before .before .before .before .before .args in
+    let a = c .before .before .before .before .before .before .before .args in
     let m = c .before .before .reach .result in
     let size : l .i + m - l .i ≡ m = omega arith in
-    leaps (a .scan) (a .levels .now) (a .samples .now) (a .first) (l .near) (l .levels) (l .index) (l .i) (l .inv .1) m _ (c .stretch .result) (c .before .before .reach .ensures)
+    leaps (scanOf (a .g) f (a .before) v) (a .levels .now) (a .samples .now) (a .first) (l .near) (l .levels) (l .index) (l .i) (l .inv .1 f v o) m _ (c .stretch .result) (c .before .before .reach .ensures)
     (ap (λ (z : ℕ). take z (drop (l .i) (a .samples .now))) size) (c .stretch .ensures)
 
+-- as the state that the caller has in mind knows them
+one-leap : (c : tie.After-stretch Inv-loop μ-loop)
+    → let l = c .before .before .before .before .loop in
+    let k = c .before .before .before .before .before .before .before in
+    Leap (scanOf (k .args .g) (k .pre .far) (k .args .before) (k .pre .verdict)) (k .args .levels .now) (k .args .samples .now) (k .args .first) (l .near) (l .levels) (l .index) (l .i) (c .stretch .result)
+one-leap c = let o = c .before .before .before .before .before .before .before .pre in leap c (o .far) (o .verdict) (o .opened)
+
 sub-taken : tie.Need-sub-taken Inv-loop μ-loop
-sub-taken c = leap (c .before .before) .onward
+sub-taken c = one-leap (c .before .before) .onward
 
 -- none was, or their indices are below the limit
 fitting : (index n : ℕ) → index < 2 ^ 64 → (0 < n → index + n ≤ limit) → index + n < 2 ^ 64
@@ -80,46 +96,44 @@ add-index : tie.Need-add-index Inv-loop μ-loop
 add-index c =
     let p = c .before .before in
     let l = p .before .before .before .before .loop in
-    omega (arith, fitting (l .index) (p .stretch .result .count - l .near .count) (l .inv .2) (leap p .small))
+    omega (arith, fitting (l .index) (p .stretch .result .count - l .near .count) (l .inv .2) (one-leap p .small))
 
 add-i : tie.Need-add-i Inv-loop μ-loop
-add-i c = omega (arith, leap (c .before .before) .less)
+add-i c = omega (arith, one-leap (c .before .before) .less)
 
 mul-x : tie.Need-mul-x Inv-loop μ-loop
-mul-x c = omega (arith, leap (c .before .before) .less)
+mul-x c = omega (arith, one-leap (c .before .before) .less)
 
 shared-slice-read-x : tie.Need-shared-slice-read-x Inv-loop μ-loop
-shared-slice-read-x c = leap (c .before .before .before) .less
+shared-slice-read-x c = one-leap (c .before .before .before) .less
 
 passable-requires : tie.Need-passable-requires Inv-loop μ-loop
-passable-requires c κs = let k = leap (c .before .before .before) .going .ready in (k .partial, k .room)
-
-with-near-requires : tie.Need-with-near-requires Inv-loop μ-loop
-with-near-requires c κs = search needs
+passable-requires c κs = let k = one-leap (c .before .before .before) .going .ready in (k .partial, k .room)
 
 same-length : tie.Need-same-length Inv-loop μ-loop
-same-length c = c .before .before .before .before .before .before .before .before .before .before .loop .inv .0
+same-length c = c .before .before .before .before .before .before .before .before .before .loop .inv .0
 
 returns : tie.Need-returns Inv-loop μ-loop
-returns c =
-    let p = c .before .before .before .before .before .before in
+returns c = λ f v o.
+    let p = c .before .before .before .before .before in
     let l = p .before .before .before .before .loop in
-    let a = p .before .before .before .before .before .before .before .before .before .args in
+    let a = p .before .before .before .before .before .before .before .args in
     let n = p .stretch .result in
     let t = n .count - l .near .count in
-    let e = ends (a .scan) (a .levels .now) (a .samples .now) (a .first) n (l .levels) (l .index + t) (l .i + t) (leap p .going) (leap p .less)
-    (sym (c .before .before .passable .ensures) ∙ not-true _ (c .before .if1 .taken)) in
-    rw (c .with-near .ensures) e
+    ends (scanOf (a .g) f (a .before) v) (a .levels .now) (a .samples .now) (a .first) n (l .levels) (l .index + t) (l .i + t) (leap p f v o .going) (leap p f v o .less)
+    (sym (c .before .passable .ensures) ∙ not-true _ (c .if1 .taken))
 
 step-requires : tie.Need-step-requires Inv-loop μ-loop
 step-requires c κs =
     let p = c .before .before .before .before .before .before in
     let l = p .before .before .before .before .loop in
-    let a = p .before .before .before .before .before .before .before .before .before .args in
+    let k = p .before .before .before .before .before .before .before in
+    let a = k .args in
+    let s = scanOf (a .g) (k .pre .far) (a .before) (k .pre .verdict) in
     let n = p .stretch .result in
     let t = n .count - l .near .count in (
-      omega (arith, leap p .going .ready .partial),
-      gathers-if (a .scan) (a .levels .now) (a .samples .now) (a .first) n (l .levels) (l .index + t) (l .i + t) (leap p .going) (leap p .less)
+      omega (arith, one-leap p .going .ready .partial),
+      gathers-if s (a .levels .now) (a .samples .now) (a .first) n (l .levels) (l .index + t) (l .i + t) (one-leap p .going) (one-leap p .less)
           (sym (c .before .before .passable .ensures) ∙ not-false _ (c .before .if1 .left)),
     )
 
@@ -127,49 +141,48 @@ add-index-2 : tie.Need-add-index-2 Inv-loop μ-loop
 add-index-2 c =
     let p = c .before .before .before .before .before .before .before .before .before in
     let l = p .before .before .before .before .loop in
-    let a = p .before .before .before .before .before .before .before .before .before .args in
+    let k = p .before .before .before .before .before .before .before in
+    let a = k .args in
+    let s = scanOf (a .g) (k .pre .far) (a .before) (k .pre .verdict) in
     let n = p .stretch .result in
     let t = n .count - l .near .count in
     omega (
       arith,
-      below (a .scan) (a .levels .now) (a .samples .now) (a .first) n (l .levels) (l .index + t) (l .i + t) (leap p .going) (leap p .less)
+      below s (a .levels .now) (a .samples .now) (a .first) n (l .levels) (l .index + t) (l .i + t) (one-leap p .going) (one-leap p .less)
           (sym (c .before .before .before .before .before .passable .ensures) ∙ not-false _ (c .before .before .before .before .if1 .left)),
     )
 
 add-i-2 : tie.Need-add-i-2 Inv-loop μ-loop
-add-i-2 c = omega (arith, leap (c .before .before .before .before .before .before .before .before .before) .less, c .before .before .before .before .before .before .before .before .before .before .before .before .before .before .before .before .before .before .fits, c .before .before .before .before .before .before .before .before .before .before .before .before .before .before .before .before .before .before .good)
+add-i-2 c = omega (arith, one-leap (c .before .before .before .before .before .before .before .before .before) .less, c .before .before .before .before .before .before .before .before .before .before .before .before .before .before .before .before .fits, c .before .before .before .before .before .before .before .before .before .before .before .before .before .before .before .before .good)
 
 loop-less : tie.Need-loop-less Inv-loop μ-loop
-loop-less c = omega (arith, leap (c .before .before .before .before .before .before .before .before .before) .less)
+loop-less c = omega (arith, one-leap (c .before .before .before .before .before .before .before .before .before) .less)
 
 loop-again : tie.Need-loop-again Inv-loop μ-loop
 loop-again c =
     let p = c .before .before .before .before .before .before .before .before .before in
     let l = p .before .before .before .before .loop in
-    let a = p .before .before .before .before .before .before .before .before .before .args in
+    let k = p .before .before .before .before .before .before .before in
+    let a = k .args in
     let n = p .stretch .result in
     let t = n .count - l .near .count in
-    let k = c .before .before .step in
+    let step = c .before .before .step in
     let passes = sym (c .before .before .before .before .before .passable .ensures) ∙ not-false _ (c .before .before .before .before .if1 .left) in
-    let small = below (a .scan) (a .levels .now) (a .samples .now) (a .first) n (l .levels) (l .index + t) (l .i + t) (leap p .going) (leap p .less) passes in (
-      omega (arith, l .inv .0, k .kept),
-      goes (a .scan) (a .levels .now) (a .samples .now) (a .first) n (l .levels) (l .index + t) (l .i + t) (leap p .going) (leap p .less)
-          passes _ _ (k .ensures .0) (k .ensures .1),
+    let small = below (scanOf (a .g) (k .pre .far) (a .before) (k .pre .verdict)) (a .levels .now) (a .samples .now) (a .first) n (l .levels) (l .index + t) (l .i + t) (one-leap p .going) (one-leap p .less) passes in (
+      omega (arith, l .inv .0, step .kept),
+      λ f v o. goes (scanOf (a .g) f (a .before) v) (a .levels .now) (a .samples .now) (a .first) n (l .levels) (l .index + t) (l .i + t) (leap p f v o .going) (leap p f v o .less)
+          passes _ _ (step .ensures .0) (step .ensures .1),
       omega (arith, small),
     )
 
-with-near-requires-2 : tie.Need-with-near-requires-2 Inv-loop μ-loop
-with-near-requires-2 c κs = search needs
-
 same-length-2 : tie.Need-same-length-2 Inv-loop μ-loop
-same-length-2 c = c .before .before .loop .inv .0
+same-length-2 c = c .before .loop .inv .0
 
 returns-2 : tie.Need-returns-2 Inv-loop μ-loop
-returns-2 c =
-    let a = c .before .before .before .before .before .before .before .args in
-    let l = c .before .before .loop in
-    let e = through (a .scan) (a .levels .now) (a .samples .now) (a .first) (l .near) (l .levels) (l .index) (l .i) (l .inv .1) (omega arith) in
-    rw (c .with-near2 .ensures) e
+returns-2 c = λ f v o.
+    let a = c .before .before .before .before .args in
+    let l = c .before .loop in
+    through (scanOf (a .g) f (a .before) v) (a .levels .now) (a .samples .now) (a .first) (l .near) (l .levels) (l .index) (l .i) (l .inv .1 f v o) (omega arith)
 
 pub walk-spec : {M : Type 1} → statement M
 walk-spec =
@@ -192,7 +205,6 @@ walk-spec =
     mul-x
     shared-slice-read-x
     passable-requires
-    with-near-requires
     same-length
     returns
     step-requires
@@ -200,6 +212,5 @@ walk-spec =
     add-i-2
     loop-less
     loop-again
-    with-near-requires-2
     same-length-2
     returns-2)

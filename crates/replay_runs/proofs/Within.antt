@@ -26,11 +26,10 @@ use Rattle.recording.proofs.Forms.{bytes-mono}
 use Rattle.replay_stream.specs.declared.Bytes.{Bytes}
 use Rattle.replay_stream.proofs.Entering.{Taken, taken}
 use Rattle.replay_stream.proofs.Turning.{good-whole}
+use Rattle.replay_runs.specs.Silences.{Inside}
 
-pub record Within (hand : Hand) (u : Bytes) : Type 0 where
-  pub events : u .events ≤ length (hand .events .bytes)
-  pub far : u .far ≤ length (hand .far .bytes)
-  pub near : u .near ≤ length (hand .near .bytes)
+abbrev pub Within : Hand → Bytes → Type 0
+Within hand u = Inside (hand .events .bytes) (hand .far .bytes) (hand .near .bytes) u
 
 module _ (h : Header) (hand : Hand) where
   abbrev W : Next → Type 0

@@ -1,0 +1,5 @@
+pub mod Judging
+pub mod Silently
+pub mod Events
+pub mod Within
+pub mod Taking
