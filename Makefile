@@ -7,7 +7,7 @@ PROCESSOR ?= $(shell uname -m)
 version := $(shell tools/version)
 name := trimolaveg-$(version)
 headers := $(wildcard include/*.h)
-programs := replay parts check
+programs := replay parts check convert record
 
 # In a tree that came from a dist file there are archives and no crates.
 ifneq ($(wildcard crates),)
@@ -48,7 +48,7 @@ dist: $(processors:%=target/archive/%/libtrimolaveg.a) $(programs:%=target/bin/%
 	mkdir -p target/dist/$(name)/target/bin target/dist/$(name)/tools
 	cp -r $(programs) show draw demo include examples bindings docs Makefile README.md CHANGELOG.md LICENSE NOTICE KIT target/dist/$(name)
 	rm -rf target/dist/$(name)/bindings/rust/target
-	cp -r tools/version tools/front tools/all tools/desk target/dist/$(name)/tools
+	cp -r tools/version tools/front tools/all tools/list tools/desk target/dist/$(name)/tools
 	cp $(programs:%=target/bin/%_main) target/dist/$(name)/target/bin
 	for processor in $(processors); do install -D -m 644 target/archive/$$processor/libtrimolaveg.a target/dist/$(name)/lib/$$processor/libtrimolaveg.a; done
 	tar -C target/dist --sort=name --owner=0 --group=0 --numeric-owner -czf target/dist/$(name).tar.gz $(name)

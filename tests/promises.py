@@ -14,7 +14,7 @@ import sys
 ROOT = pathlib.Path(__file__).resolve().parent.parent
 CRATES = ROOT / "crates"
 # The crates whose calls a host makes.
-CALLED = ["floats", "ring", "tracker", "scan_calls", "scan_push", "scan_runs", "scan_handover", "scan_score", "scan_panel_calls", "scan_pair_calls", "fine", "fine_gate", "fine_handover", "fine_peak", "ring_window", "log_lines", "log_text", "log_parts", "log_passes", "log_report", "recording_shorts", "log_hold", "log_says", "recording", "recording_convert", "recording_store", "replay", "replay_next", "version_face", "floats_face", "ring_face", "tracker_face", "fine_face", "scan_face", "scan_handover_face", "scan_panel_face", "scan_panel_reports_face", "scan_pair_face", "fine_handover_face", "ring_window_face"]
+CALLED = ["floats", "ring", "tracker", "scan_calls", "scan_push", "scan_runs", "scan_handover", "scan_score", "scan_panel_calls", "scan_pair_calls", "fine", "fine_gate", "fine_handover", "fine_peak", "ring_window", "log_lines", "log_text", "log_parts", "log_passes", "log_report", "recording_shorts", "log_hold", "log_says", "recording", "recording_convert", "recording_store", "wav", "recording_make", "replay", "replay_next", "version_face", "floats_face", "ring_face", "tracker_face", "fine_face", "scan_face", "scan_handover_face", "scan_panel_face", "scan_panel_reports_face", "scan_pair_face", "fine_handover_face", "ring_window_face"]
 # Public only for the crates above them; a host calls none of these. Each is pinned by an equation in its contract all the same.
 INNER = {
     "floats": ["bits.rt"],

@@ -1,0 +1,1 @@
+// No code: what is made of two sounds has no line in its log that begins with `bad`.
