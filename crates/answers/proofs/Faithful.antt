@@ -1,5 +1,5 @@
 -- What an answer tells is the whole answer: two answers that tell the same are the same.
-use mathlib.Core.Bool.{Bool, true, false}
+use mathlib.Core.Bool.{true, false}
 use mathlib.Core.Path.{◌≡◌, refl}
 use Rattle.answers.specs.Pick.{pick}
 use Rattle.answers.specs.declared.Change.{Change}

@@ -1,6 +1,6 @@
 -- What an answer tells: the number of its case, and behind it the case's values. A refusal is case 0, and its value is the refusal number.
 -- Each part of the house tells its own answers in this form, once; the C face and the log cite that.
-use Rattle.std.specs.Prelude.{ℕ, Bool, List, [], ◌∷◌}
+use Rattle.std.specs.Prelude.{ℕ, List, [], ◌∷◌}
 use Rattle.answers.specs.Pick.{pick}
 use Rattle.answers.specs.declared.Change.{Change}
 use Rattle.answers.specs.declared.Change.TheVariants as change

@@ -1,4 +1,6 @@
 // What every crate shares: refusal numbers, limits, the answers that say nothing of a state, and helpers on numbers that the Rust takes from its library.
+#![tactic(auto)]
+
 ghost use Rattle.std.specs.Prelude.{◌≡◌, ◌-◌, min, max};
 ghost use Rattle.answers.specs.Answers.{changing, counted, flagged};
 ghost use Rattle.answers.specs.Numbers;
@@ -32,21 +34,21 @@ pub const INCONSISTENT_RECORD: u8 = 9;
 pub const LIMIT: u64 = 0x4000_0000_0000_0000;
 
 // Of a call that changes a state, and tells nothing but that it did.
-#[derive(Drop)]
+#[derive(Clone, Copy)]
 pub enum Change {
     Refused(u8),
     Done,
 }
 
 // Of a report that is a count.
-#[derive(Drop)]
+#[derive(Clone, Copy)]
 pub enum Count {
     Refused(u8),
     Is(u64),
 }
 
 // Of a report that is yes or no.
-#[derive(Drop)]
+#[derive(Clone, Copy)]
 pub enum Flag {
     Refused(u8),
     Is(bool),

@@ -2,6 +2,8 @@
 // slices (a slice is a pointer and a length), for firmware and for hosts in other languages. tools/archive makes one archive of them.
 // A state is lent as words; the crates ring_words, scan_words, tracker_words and fine_words say where each field is, and what number each answer has. No call has a `requires`. Each returns a
 // refusal's number, or 16 or more, which is the case of its answer. A refused call writes nothing. specs/Face.antt says in which order a call judges what it is lent.
+#![tactic(auto)]
+
 ghost use Rattle.std.specs.Prelude.{◌≡◌};
 ghost use Rattle.face.specs.Face.{setting_first};
 

@@ -7,7 +7,6 @@ use lib.Ieee.{Float, binary64, of_bits, to_bits}
 use lib.Ieee.Bits.{of_bits-to_bits}
 use Rattle.units.specs.Units.{samples}
 use Rattle.fine.specs.State.{positions}
-use Rattle.fine.specs.declared.Range.{Range}
 use Rattle.fine.specs.declared.Positions.{Positions}
 use Rattle.fine.specs.declared.Position.TheVariants.{Nothing, At}
 use Rattle.fine.specs.declared.SamplesReport.{SamplesReport}

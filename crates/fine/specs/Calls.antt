@@ -1,6 +1,5 @@
 -- Defines the calls that are lent no buffer: making, restart, relocate and reset, which clear what delay.rs says, and the reports.
-use Rattle.std.specs.Prelude.{ℕ, ◌+◌, Bool, true, ltb, Float}
-use Rattle.answers.specs.Pick.{pick}
+use Rattle.std.specs.Prelude.{ℕ, ◌+◌, true, ltb}
 use Rattle.answers.specs.Refusals.{require, before, if_refused, none, outside_table, too_large}
 use Rattle.answers.specs.Numbers.{limit, allowed_span}
 use Rattle.answers.specs.Answers.{counted}
@@ -8,9 +7,8 @@ use Rattle.answers.specs.declared.Change.TheVariants as change
 use Rattle.answers.specs.declared.Count.{Count}
 use Rattle.units.specs.Units.{samples}
 use Rattle.units.specs.declared.Samples.{Samples}
-use Rattle.fine.specs.State.{window_of, lengths_of, new_with, span_of, first_refusals}
+use Rattle.fine.specs.State.{lengths_of, new_with, span_of, first_refusals}
 use Rattle.fine.specs.declared.Frames.{Frames}
-use Rattle.fine.specs.declared.Position.{Position}
 use Rattle.fine.specs.declared.Fine.{Fine}
 use Rattle.fine.specs.declared.Range.{Range}
 use Rattle.fine.specs.declared.Changed.{Changed}

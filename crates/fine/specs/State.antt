@@ -8,8 +8,7 @@ use Rattle.floats.specs.Functions.{zero64}
 use Rattle.fine.specs.declared.Lengths.{Lengths}
 use Rattle.fine.specs.declared.Frames.{Frames}
 use Rattle.fine.specs.declared.Positions.{Positions}
-use Rattle.fine.specs.declared.Position.{Position}
-use Rattle.fine.specs.declared.Position.TheVariants.{Nothing, At}
+use Rattle.fine.specs.declared.Position.TheVariants.{Nothing}
 use Rattle.fine.specs.declared.Scans.{Scans}
 use Rattle.fine.specs.declared.Fine.{Fine}
 

@@ -1,6 +1,8 @@
 // The fine stage's state: making, restart, relocation, reset and reports. The crates above have the gate on near frames and the peak rule.
 // The state goes in by value and comes back by value. No call has a `requires`: a bad call is refused by number and hands back the state that it was given.
 // Each contract is one equation with a definition of specs/.
+#![tactic(auto)]
+
 ghost use Rattle.std.specs.Prelude.{◌≡◌, ◌≤◌};
 ghost use Rattle.fine.specs.State.{least_power, transform_of, lengths_of, new_with, with_frames, same_lengths, keeps_rules, first_refusals};
 ghost use Rattle.fine.specs.Calls.{changed, made, state_refusal, restarted_at, restarted, relocate_refusal, relocated, was_reset, samples_reported, frame_len, window_len, max_delay, window_back_off, search_range, frames_of, skipped_of, last_scan_ratio, last_scan_peak_at, last_scan_origin, scans_of};
@@ -9,7 +11,7 @@ use answers::{Change, Count};
 use units::Samples;
 
 // The span, and what follows from it: the transform length and the near frame's length. All are in samples.
-#[derive(Drop)]
+#[derive(Clone, Copy)]
 pub struct Lengths {
     pub span: u32,
     pub transform: u64,
@@ -17,7 +19,7 @@ pub struct Lengths {
 }
 
 // The length of the near frame under way, whether a frame is retained, how many frames were taken at this origin, and how many were skipped in all.
-#[derive(Drop)]
+#[derive(Clone, Copy)]
 pub struct Frames {
     pub len: u64,
     pub retained: bool,
@@ -26,20 +28,20 @@ pub struct Frames {
 }
 
 // The first and the last position of a scan's greatest height. They differ if it is a tie.
-#[derive(Drop)]
+#[derive(Clone, Copy)]
 pub struct Positions {
     pub first: u64,
     pub last: u64,
 }
 
-#[derive(Drop)]
+#[derive(Clone, Copy)]
 pub enum Position {
     Nothing,
     At(Positions),
 }
 
 // How many scans there were, and the last one's ratio of peak to mean, its peak's position, and its origin.
-#[derive(Drop)]
+#[derive(Clone, Copy)]
 pub struct Scans {
     pub count: u64,
     pub ratio: f64,
@@ -47,7 +49,7 @@ pub struct Scans {
     pub origin: Samples,
 }
 
-#[derive(Drop)]
+#[derive(Clone, Copy)]
 pub struct Fine {
     pub lengths: Lengths,
     pub origin: Samples,
@@ -56,7 +58,7 @@ pub struct Fine {
 }
 
 // A range of delays that includes both ends.
-#[derive(Drop)]
+#[derive(Clone, Copy)]
 pub struct Range {
     pub first: Samples,
     pub last: Samples,
@@ -65,25 +67,25 @@ pub struct Range {
 // ---- answers. A refusal carries its number (SPECIFICATION 3).
 
 // The answer of a report that is not a count.
-#[derive(Drop)]
+#[derive(Clone, Copy)]
 pub enum SamplesReport {
     Refused(u8),
     Is(Samples),
 }
 
-#[derive(Drop)]
+#[derive(Clone, Copy)]
 pub enum RangeReport {
     Refused(u8),
     Is(Range),
 }
 
-#[derive(Drop)]
+#[derive(Clone, Copy)]
 pub enum RatioReport {
     Refused(u8),
     Is(f64),
 }
 
-#[derive(Drop)]
+#[derive(Clone, Copy)]
 pub enum PositionReport {
     Refused(u8),
     Is(Position),
@@ -91,7 +93,7 @@ pub enum PositionReport {
 
 // ---- the state that comes back, with the answer
 
-#[derive(Drop)]
+#[derive(Clone, Copy)]
 pub struct Changed {
     pub fine: Fine,
     pub answer: Change,

@@ -1,4 +1,6 @@
 // The fine stage's calls. crates/fine_words/specs/Layout.antt says where each field of its state is.
+#![tactic(auto)]
+
 ghost use Rattle.std.specs.Prelude.{◌≡◌, ◌+◌};
 ghost use Rattle.fine.specs.State.{frame_of, window_of};
 ghost use Rattle.fine_words.specs.Layout.{fine_words};

@@ -1,5 +1,5 @@
 -- A state that keeps the rules keeps them through a near sample, a gate and a rescan; and what each outcome of the gate leaves.
-use Rattle.std.proofs.Common.{◌≡◌, ℕ, ◌+◌, ◌<◌, ◌≤◌, eqb, List, length, sym, refl, ◌∙◌, arith, eqb-true}
+use Rattle.std.proofs.Common.{◌≡◌, ℕ, ◌≤◌, eqb, List, length, refl, arith, eqb-true}
 use lib.Ieee.{Float}
 use Rattle.answers.specs.Pick.{pick_case, pick_all}
 use Rattle.fine.specs.State.{Sound, with_frames}

@@ -10,7 +10,6 @@ use Rattle.folds.specs.Sums.{upto, at, square, all_finite}
 use Rattle.fine.specs.State.{frame_of, window_of, span_of, with_frames, full, first_refusals}
 use Rattle.fine.specs.declared.Frames.{Frames}
 use Rattle.fine.specs.declared.Fine.{Fine}
-use Rattle.fine_gate.specs.declared.Taking.{Taking}
 use Rattle.fine_gate.specs.declared.Taking.TheVariants as taking
 use Rattle.fine_gate.specs.declared.Took.{Took}
 use Rattle.fine_gate.specs.declared.Passage.{Passage}

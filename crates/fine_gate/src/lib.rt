@@ -1,6 +1,8 @@
 // The fine stage's frames: takes near samples, gates a full near frame, and gates the retained frame again.
 // The state goes in by value and comes back by value; frames and far window are lent. No public call has a `requires`: a bad call is refused by number,
 // hands back the state that it was given and writes no buffer. Each contract is one equation with a definition of specs/Gate.antt.
+#![tactic(auto)]
+
 ghost use Rattle.std.specs.Prelude.{◌≡◌, ◌<◌, length};
 ghost use Rattle.fine.specs.State.{lengths_of};
 ghost use Rattle.fine_gate.specs.Gate;
@@ -15,7 +17,7 @@ const FRAME_ENERGY_FLOOR: f64 = 1e-8;
 const TAIL_DEFICIT_LIMIT_DEN: u64 = 4;
 
 // What a gate makes of a frame and its far window.
-#[derive(Drop)]
+#[derive(Clone, Copy)]
 pub enum Passage {
     Skipped,
     Silent,
@@ -25,7 +27,7 @@ pub enum Passage {
 // ---- answers. A refusal carries its number (SPECIFICATION 3).
 
 // Answers a near sample: it was taken, or taken as the frame's last.
-#[derive(Drop)]
+#[derive(Clone, Copy)]
 pub enum Taking {
     Refused(u8),
     Taken,
@@ -33,7 +35,7 @@ pub enum Taking {
 }
 
 // Answers the gate on a near frame. From the second taken frame on, the host asks for the peak.
-#[derive(Drop)]
+#[derive(Clone, Copy)]
 pub enum GateAnswer {
     Refused(u8),
     Skipped,
@@ -43,7 +45,7 @@ pub enum GateAnswer {
 }
 
 // Answers the gate on the retained frame.
-#[derive(Drop)]
+#[derive(Clone, Copy)]
 pub enum RescanAnswer {
     Refused(u8),
     NothingRetained,
@@ -54,19 +56,19 @@ pub enum RescanAnswer {
 
 // ---- the state that comes back, with the answer
 
-#[derive(Drop)]
+#[derive(Clone, Copy)]
 pub struct Took {
     pub fine: Fine,
     pub answer: Taking,
 }
 
-#[derive(Drop)]
+#[derive(Clone, Copy)]
 pub struct Gated {
     pub fine: Fine,
     pub answer: GateAnswer,
 }
 
-#[derive(Drop)]
+#[derive(Clone, Copy)]
 pub struct Rescanned {
     pub fine: Fine,
     pub answer: RescanAnswer,

@@ -1,5 +1,7 @@
 // Near samples of the fine stage in runs: one call takes a run and ends after the sample that completes the frame. The part that would be taken is checked first and as a
 // whole; a refused run takes nothing. The call has no `requires`; what it does is defined in specs/Handover.
+#![tactic(auto)]
+
 ghost use Rattle.std.specs.Prelude.{◌≡◌, ◌+◌, ◌≤◌, length};
 ghost use Rattle.std.proofs.Math.Seq.{paste};
 ghost use Rattle.answers.specs.Pick.{pick};
@@ -12,7 +14,7 @@ ghost use Rattle.fine_handover.specs.Ready.{longer_by};
 use fine::{Fine, Frames, Lengths};
 
 // Answers a run: refused, taken, or taken up to the frame's last sample; with the number of samples taken.
-#[derive(Drop)]
+#[derive(Clone, Copy)]
 pub enum RunTaking {
     Refused(u8),
     Taken(usize),
@@ -20,7 +22,7 @@ pub enum RunTaking {
 }
 
 // The state that comes back, with the answer.
-#[derive(Drop)]
+#[derive(Clone, Copy)]
 pub struct Handed {
     pub fine: Fine,
     pub answer: RunTaking,

@@ -1,4 +1,6 @@
 // Near samples of the fine stage in runs, on the words that a host lends; and the length of its transform. The fine stage's other calls are in crate fine_face.
+#![tactic(auto)]
+
 ghost use Rattle.std.specs.Prelude.{◌≡◌, length};
 ghost use Rattle.words.specs.Words.{one_value};
 ghost use Rattle.words.specs.Answers.{number, given};

@@ -1,5 +1,5 @@
 -- What an answer tells is the whole answer: two answers that tell the same are the same. A ratio is told by its pattern, which says all of a binary64.
-use Rattle.std.proofs.Common.{◌≡◌, ℕ, T, refl, ap, ◌∙◌}
+use Rattle.std.proofs.Common.{◌≡◌, ℕ, T, ap, ◌∙◌}
 use lib.Ieee as Ieee
 use lib.Ieee.{Float, binary64}
 use Rattle.units.specs.Units.{samples}

@@ -1,11 +1,11 @@
 -- The crest of finite entries stands first at the first of the greatest heights. Heights are compared as fractions of whole numbers.
-use Rattle.std.proofs.Common.{◌≡◌, ℕ, zero, suc, ◌+◌, ◌*◌, ◌<◌, ◌≤◌, Bool, true, false, ◌&&◌, ◌||◌, eqb, ltb, ◌⊎◌, List, [], ◌∷◌, length, get_or, take, ℤ, pos, sym, refl, ap, ◌∙◌, subst, inl, inr, ⊎_elim, true≢false, le_refl, le_of_suc-le-suc, not-suc-le-zero, le_of_lt, eq-or-lt_of_le, zero-mul, mul-one, arith, ltb-false, ltb-true, le-ltb, lt-ltb, eq-eqb, eqb-true}
-use mathlib.Core.Bool.{beq, false≢true}
+use Rattle.std.proofs.Common.{◌≡◌, ℕ, zero, suc, ◌*◌, ◌<◌, ◌≤◌, Bool, true, false, ◌&&◌, ◌⊎◌, List, [], ◌∷◌, length, take, ℤ, pos, sym, refl, ap, ◌∙◌, subst, inl, inr, ⊎_elim, le_refl, le_of_suc-le-suc, not-suc-le-zero, le_of_lt, eq-or-lt_of_le, zero-mul, arith, ltb-false, ltb-true, le-ltb, lt-ltb, eq-eqb}
+use mathlib.Core.Bool.{false≢true}
 use lib.Ieee.{Float, nan, inf, fin, up, down, lt, eq}
 use lib.Ieee.Fits.{down_pos}
 use lib.Ieee.Positive.{through}
 use lib.Ieee.Scale.{finite}
-use Rattle.answers.specs.Pick.{pick, pick_case, both}
+use Rattle.answers.specs.Pick.{pick, pick_case}
 use Rattle.floats.specs.Functions.{zero64, magnitude}
 use Rattle.floats.proofs.Compare.{le_or_lt}
 use Rattle.folds.specs.Sums.{all_finite, at}

@@ -1,8 +1,7 @@
 -- One entry more, and what is known where the peak rule is not refused.
-use Rattle.std.proofs.Common.{◌≡◌, ℕ, zero, suc, ◌+◌, ◌<◌, ◌≤◌, Bool, leb, List, length, take, sym, refl, ap, ◌∙◌, add-one, arith, leb-true}
+use Rattle.std.proofs.Common.{◌≡◌, ℕ, zero, suc, ◌+◌, ◌≤◌, leb, List, length, sym, ◌∙◌, add-one, arith, leb-true}
 use lib.Ieee.{Float}
 use Rattle.answers.specs.Pick.{pick_all}
-use Rattle.answers.specs.Numbers.{limit}
 use Rattle.answers.proofs.Refusals.{passed_both}
 use Rattle.fine.specs.State.{Sound, span_of, first_refusals}
 use Rattle.fine.specs.declared.Fine.{Fine}

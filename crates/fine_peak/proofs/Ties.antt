@@ -1,5 +1,5 @@
 -- The crest of finite entries stands last at the last of the greatest heights, and first and last tell a tie. With all zeros they are 0 and span.
-use Rattle.std.proofs.Common.{◌≡◌, ℕ, zero, suc, ◌+◌, ◌*◌, ◌<◌, ◌≤◌, Bool, true, false, ◌&&◌, eqb, ◌⊎◌, List, length, take, pos, sym, refl, ap, ◌∙◌, subst, inl, inr, ⊎_elim, true≢false, le_of_suc-le-suc, not-suc-le-zero, eq-or-lt_of_le, add-one, arith, ltb-false, ltb-true, le-ltb, lt-ltb, eqb-true}
+use Rattle.std.proofs.Common.{◌≡◌, ℕ, zero, suc, ◌+◌, ◌*◌, ◌<◌, ◌≤◌, Bool, true, false, ◌&&◌, ◌⊎◌, List, length, take, pos, sym, refl, ap, ◌∙◌, subst, inl, inr, ⊎_elim, true≢false, le_of_suc-le-suc, not-suc-le-zero, eq-or-lt_of_le, add-one, arith, ltb-false, ltb-true, le-ltb, lt-ltb, eqb-true}
 use mathlib.Core.Bool.{false≢true}
 use lib.Ieee.{Float, nan, inf, fin, up, down, lt, eq}
 use borrow.Author.Tests.{eqb-false}
@@ -10,7 +10,7 @@ use Rattle.folds.specs.Sums.{all_finite, at}
 use Rattle.fine.specs.State.{positions}
 use Rattle.fine_peak.specs.declared.Crest.{Crest}
 use Rattle.fine_peak.specs.Peak.{tie, crest, crest_of, height, heights_of}
-use Rattle.fine_peak.specs.Greatest.{FirstGreatest, LastGreatest, HeldTwice, TellsTies, first_of, last_of}
+use Rattle.fine_peak.specs.Greatest.{LastGreatest, TellsTies, last_of}
 use Rattle.fine_peak.proofs.Greatest.{Height, at_height, is_height, equals_itself, is_zero, finite_at, first_greatest}
 
 -- ---- two heights

@@ -13,10 +13,8 @@ use Rattle.folds.specs.Sums.{upto, all_finite}
 use Rattle.fine.specs.State.{positions, span_of, first_refusals}
 use Rattle.fine.specs.declared.Positions.{Positions}
 use Rattle.fine.specs.declared.Position.TheVariants.{At}
-use Rattle.fine.specs.declared.Scans.{Scans}
 use Rattle.fine_peak.specs.declared.Lock.{Lock}
 use Rattle.fine.specs.declared.Fine.{Fine}
-use Rattle.fine_peak.specs.declared.PeakAnswer.{PeakAnswer}
 use Rattle.fine_peak.specs.declared.PeakAnswer.TheVariants as answer
 use Rattle.fine_peak.specs.declared.Searched.{Searched}
 use Rattle.fine_peak.specs.declared.Crest.{Crest}

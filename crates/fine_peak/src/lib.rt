@@ -1,6 +1,8 @@
 // The fine stage's peak rule: decides whether the host's correlation has a peak that stands out, and which delay it means.
 // The state goes in by value and comes back by value; the correlation is lent. The public call has no `requires`: a bad call is refused by number and
 // hands back the state that it was given. Its contract is one equation with a definition of specs/Peak.antt.
+#![tactic(auto)]
+
 ghost use Rattle.std.specs.Prelude.{◌≡◌, ◌<◌, ◌≤◌, length};
 ghost use Rattle.answers.specs.Numbers.{limit};
 ghost use Rattle.fine_peak.specs.Peak as Rule;
@@ -13,7 +15,7 @@ use units::Samples;
 const CONFIDENCE_THRESHOLD: f64 = 10.0;
 
 // A candidate: its delay, its peak's positions in the correlation, and the peak's ratio to the mean.
-#[derive(Drop)]
+#[derive(Clone, Copy)]
 pub struct Lock {
     pub delay: Samples,
     pub peak_at: Positions,
@@ -21,7 +23,7 @@ pub struct Lock {
 }
 
 // The answer of a search: it has the peak's positions, whether or not there is a candidate. A refusal carries its number (SPECIFICATION 3).
-#[derive(Drop)]
+#[derive(Clone, Copy)]
 pub enum PeakAnswer {
     Refused(u8),
     NoCandidate(Positions),
@@ -29,21 +31,21 @@ pub enum PeakAnswer {
 }
 
 // The state that comes back, with the answer.
-#[derive(Drop)]
+#[derive(Clone, Copy)]
 pub struct Searched {
     pub fine: Fine,
     pub answer: PeakAnswer,
 }
 
 // The greatest height of a correlation, and its positions.
-#[derive(Drop)]
+#[derive(Clone, Copy)]
 pub struct Crest {
     pub places: Positions,
     pub value: f64,
 }
 
 // The crest of a correlation, and the total of all heights.
-#[derive(Drop)]
+#[derive(Clone, Copy)]
 pub struct Heights {
     pub crest: Crest,
     pub total: f64,

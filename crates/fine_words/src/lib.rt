@@ -1,4 +1,6 @@
 // Loads a fine state from the 14 words that a host lends, stores it there, and turns its calls' answers into numbers and values. specs/Layout.antt says where each field is.
+#![tactic(auto)]
+
 ghost use Rattle.std.specs.Prelude.{◌≡◌, length};
 ghost use Rattle.fine_words.specs.Layout.{fine_words, loaded_lengths, are_cases, loaded_origin, loaded_frames, loaded_peak_at, loaded_scans, loaded, peak_flag, first_word, last_word, stored, settled};
 

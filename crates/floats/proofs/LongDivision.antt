@@ -21,7 +21,7 @@ next_square r = add-mul r 1 (r + 1) ∙ ap (λ (y : ℕ). y + 1 * (r + 1)) (mul-
 
 module _ {m r : ℕ} (S : Started m r) where
   pub root_low : 2 ^ 26 ≤ r
-  root_low = root_from (2 ^ 26) m r S.is S.at_least_lem
+  root_low = root_from (2 ^ 26) m r S.is S.at_least
 
   pub root_high : r < 2 ^ 27
   root_high = root_to (2 ^ 27) m r S.is S.below

@@ -1,4 +1,6 @@
 // Float helpers: narrow an f64 to an f32, and take the square root of an f64, on bit patterns and with whole numbers.
+#![tactic(auto)]
+
 pub mod bits; // a float from its bit pattern and back
 
 ghost use Rattle.std.specs.Prelude.{◌≡◌, true, ◌+◌, ◌-◌, ◌*◌, ◌^◌, ◌<◌, ◌≤◌};
@@ -124,7 +126,7 @@ pub fn narrow_bits(b: u64) -> u32
 // ---- the square root. It starts with a first guess from a table: whoever takes many roots makes the table once and lends it.
 
 // A number s near the root of an n: s * s + have = n + want.
-#[derive(Drop)]
+#[derive(Clone, Copy)]
 struct Wide {
     s: u64,
     have: u64,
@@ -168,7 +170,7 @@ fn mark(w: Wide) -> u64
 }
 
 // A number with 53 digits, and by how many places it was shifted up to get them.
-#[derive(Drop)]
+#[derive(Clone, Copy)]
 struct Up {
     m: u64,
     z: u64,

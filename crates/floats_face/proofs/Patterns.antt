@@ -4,7 +4,7 @@ use mathlib.Core.Path.{◌≡◌, refl, sym, ap, ◌∙◌, subst}
 use mathlib.Core.Bool.{Bool, true, false, not, true≢false}
 use native.Mathlib.Omega.{arith}
 use lib.Dec.{T, ltb}
-use lib.Ieee.{Float, nan, inf, fin, binary64, is_nan, nan_bits, of_bits, to_bits, top, ones, hid}
+use lib.Ieee.{Float, nan, inf, fin, binary64, is_nan, of_bits, to_bits, ones, hid}
 use lib.Ieee.Bits.{of_bits-fits, to_bits-of_bits, nan_bits_is, nan_bits_above}
 use Rattle.answers.specs.Pick.{pick_true, pick_false}
 use Rattle.words.specs.Words.{pattern_of}

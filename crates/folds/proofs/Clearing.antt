@@ -1,5 +1,5 @@
 -- The loops that clear a list: its first i values are zeros.
-use Rattle.std.proofs.Common.{◌≡◌, ℕ, ◌+◌, ◌<◌, ◌≤◌, List, length, take, set, sym, refl, ap, ◌∙◌, add-one, arith, take_all, take-suc-set}
+use Rattle.std.proofs.Common.{◌≡◌, ℕ, ◌+◌, ◌<◌, List, length, take, set, sym, refl, ◌∙◌, add-one, arith, take_all, take-suc-set}
 use lib.Ieee.{Float}
 use Rattle.floats.specs.Functions.{zero64}
 use Rattle.folds.specs.Sums.{table, zeros}

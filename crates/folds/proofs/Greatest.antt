@@ -1,13 +1,13 @@
 -- The coarse search finds the greatest value above 0, at its last index.
-use Rattle.std.proofs.Common.{◌≡◌, ℕ, zero, suc, ◌+◌, ◌*◌, ◌<◌, ◌≤◌, Bool, true, false, not, ◌&&◌, ◌||◌, T, eqb, ltb, ◌⊎◌, List, [], ◌∷◌, length, sym, refl, ap, ◌∙◌, subst, inl, inr, ⊎_elim, true≢false, le_of_eq, lt_of_lt_of_le, not-suc-le-zero, mul-le-mul_right, lt_of_mul-lt-mul_right, mul-lt-mul_of_pos_right, zero-mul, mul_right_comm, arith, ltb-true, le-ltb, lt-ltb, eqb-true}
-use mathlib.Core.Bool.{beq, false≢true}
+use Rattle.std.proofs.Common.{◌≡◌, ℕ, zero, suc, ◌+◌, ◌*◌, ◌<◌, ◌≤◌, Bool, true, false, ◌&&◌, eqb, ◌⊎◌, List, [], ◌∷◌, length, sym, refl, ap, ◌∙◌, subst, inl, inr, ⊎_elim, true≢false, lt_of_lt_of_le, not-suc-le-zero, mul-le-mul_right, lt_of_mul-lt-mul_right, mul-lt-mul_of_pos_right, zero-mul, mul_right_comm, arith, ltb-true, le-ltb, lt-ltb, eqb-true}
+use mathlib.Core.Bool.{false≢true}
 use lib.Ieee.{Float, nan, inf, fin, lt, eq, up, down}
 use lib.Ieee.Fits.{down_pos}
-use Rattle.answers.specs.Pick.{pick, pick_case}
+use Rattle.answers.specs.Pick.{pick_case}
 use Rattle.floats.specs.Functions.{zero64}
 use Rattle.folds.specs.Sums.{at}
-use Rattle.folds.specs.Search.{peak, meet, down_from, search_down}
-use Rattle.folds.specs.Greatest.{NoneAbove, Greatest, FindsGreatest}
+use Rattle.folds.specs.Search.{peak, down_from, search_down}
+use Rattle.folds.specs.Greatest.{FindsGreatest}
 use Rattle.folds.specs.declared.Peak.{Peak}
 
 -- ---- the order of values that are not below 0

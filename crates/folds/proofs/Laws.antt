@@ -1,5 +1,5 @@
 -- Laws of sums and tables. `more`, `grow`, `whole`, `rest` and `table_ext` carry every loop, plain and blocked.
-use Rattle.std.proofs.Common.{◌≡◌, ℕ, zero, suc, ◌+◌, ◌<◌, ◌≤◌, List, [], ◌∷◌, ◌++◌, length, get_or, take, set, sym, refl, ap, ◌∙◌, ⊎_elim, le_of_suc-le-suc, not-suc-le-zero, eq-or-lt_of_le, add-one, arith, length-append, take_all, get_or-set_other, get_or-take, take-suc, take-suc-set}
+use Rattle.std.proofs.Common.{◌≡◌, ℕ, zero, suc, ◌+◌, ◌<◌, ◌≤◌, List, [], ◌∷◌, ◌++◌, length, take, set, sym, refl, ap, ◌∙◌, ⊎_elim, le_of_suc-le-suc, not-suc-le-zero, eq-or-lt_of_le, add-one, arith, length-append, take_all, get_or-set_other, get_or-take, take-suc, take-suc-set}
 use lib.ListN.{get_or-append}
 use lib.Seq.{take-length, get_or_at}
 use lib.Ieee.{Float, nan, binary64, add}

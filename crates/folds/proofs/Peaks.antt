@@ -1,5 +1,5 @@
 -- Laws of the coarse search: what it finds past the end, and from one index further down.
-use Rattle.std.proofs.Common.{◌≡◌, ℕ, suc, ◌+◌, ◌-◌, ◌<◌, ◌≤◌, Bool, true, false, List, ◌∷◌, length, drop, sym, refl, subst, arith, drop-cons}
+use Rattle.std.proofs.Common.{◌≡◌, ℕ, suc, ◌-◌, ◌<◌, ◌≤◌, Bool, List, length, drop, subst, arith, drop-cons}
 use lib.Seq.{drop-length}
 use lib.Ieee.{Float, nan, lt}
 use Rattle.answers.specs.Pick.{pick}

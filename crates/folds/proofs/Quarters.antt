@@ -3,7 +3,7 @@ use Rattle.std.proofs.Common.{◌≡◌, ℕ, zero, suc, ◌+◌, ◌-◌, ◌<�
 use mathlib.Core.Bool.{false≢true}
 use lib.Ieee.{Float, nan, inf, fin, Format, binary32, add}
 use lib.Ieee.Scale.{finite}
-use Rattle.answers.specs.Pick.{pick, both}
+use Rattle.answers.specs.Pick.{pick}
 use Rattle.floats.proofs.Compare.{le_or_lt}
 use Rattle.folds.specs.Sums.{all_finite, at}
 use Rattle.folds.proofs.Finite.{next}

@@ -1,5 +1,5 @@
 -- Laws of values rewritten in place: nothing yet, one value more, all of them.
-use Rattle.std.proofs.Common.{◌≡◌, ℕ, zero, suc, ◌+◌, ◌<◌, ◌≤◌, List, length, take, set, sym, refl, ap, ◌∙◌, subst, arith, length-set}
+use Rattle.std.proofs.Common.{◌≡◌, ℕ, ◌+◌, ◌<◌, List, length, take, set, refl, ap, ◌∙◌, subst, arith, length-set}
 use lib.Ieee.{Float}
 use Rattle.folds.specs.Sums.{table, at}
 use Rattle.folds.specs.Rewriting.{Rewritten}

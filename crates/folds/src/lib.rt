@@ -1,11 +1,13 @@
 // Sums, tables and searches over lent slices, each folded in one fixed order.
+#![tactic(auto)]
+
 ghost use Rattle.std.specs.Prelude.{◌≡◌, ℕ, ◌+◌, ◌<◌, ◌≤◌, true, length};
 ghost use Rattle.std.specs.Float.Ieee.Scale.{finite};
 ghost use Rattle.folds.specs.Sums.{zeros, sum_of, prefix_sums, prefix_squares, all_finite, at};
 ghost use Rattle.folds.specs.Search.{search_down};
 
 // The largest value above 0 and its index.
-#[derive(Drop)]
+#[derive(Clone, Copy)]
 pub struct Peak {
     pub place: u64,
     pub value: f64,

@@ -1,4 +1,6 @@
 // Writes and reads the lines of a replay log.
+#![tactic(auto)]
+
 ghost use Rattle.std.specs.Prelude.{◌≡◌, ◌+◌, ◌%◌, ◌^◌, ◌<◌, ◌≤◌, ◌++◌, length};
 ghost use Rattle.log_lines.specs.Text.{decimal};
 ghost use Rattle.log_lines.specs.Lines.{text_of, word_text, verdict_text, trigger_text, in_range, word_in_range, verdict_in_range};
@@ -6,7 +8,7 @@ ghost use Rattle.log_lines.specs.Calls.{written, written_out, Reads};
 ghost use Rattle.log_lines.specs.Steps.{Put, shifted, after_byte, seen_in, guessed};
 
 // A frame's answer. A peak and a correlation are bit patterns; a delay is in native samples.
-#[derive(Drop)]
+#[derive(Clone, Copy)]
 pub enum Word {
     Uncovered,
     Ahead,
@@ -19,7 +21,7 @@ pub enum Word {
     Region(u64, u64),
 }
 
-#[derive(Drop)]
+#[derive(Clone, Copy)]
 pub enum Trigger {
     Edge,
     Lost,
@@ -27,14 +29,14 @@ pub enum Trigger {
     Seam,
 }
 
-#[derive(Drop)]
+#[derive(Clone, Copy)]
 pub enum Verdict {
     Hold,
     Move(u64),
     Reacquire(Trigger),
 }
 
-#[derive(Drop)]
+#[derive(Clone, Copy)]
 pub enum Line {
     // rate and ceiling
     Replay(u32, u32),
@@ -49,13 +51,13 @@ pub enum Line {
     BadTotals,
 }
 
-#[derive(Drop)]
+#[derive(Clone, Copy)]
 pub enum Written {
     Bytes(usize),
     NoRoom,
 }
 
-#[derive(Drop)]
+#[derive(Clone, Copy)]
 pub enum Read {
     Known(Line),
     NotALogLine,
@@ -240,7 +242,7 @@ pub fn write_line(line: Line, out: &mut [u8]) -> Written
 
 // What the guess at a text's line needs: the sum of the bytes that are not digits, its last three numbers, and whether it ends
 // inside the third.
-#[derive(Drop)]
+#[derive(Clone, Copy)]
 struct Seen {
     shape: u64,
     a: u64,

@@ -1,11 +1,13 @@
 // Where two logs part: a log judged line by line, and two walked side by side.
+#![tactic(auto)]
+
 ghost use Rattle.std.specs.Prelude.{◌≡◌, leb};
 ghost use Rattle.log_parts.specs.Judged.{least_after, judged_line, judged_text};
 ghost use Rattle.log_text.specs.Text.{same_text};
 ghost use Rattle.log_parts.specs.Turns.{turn_of};
 
 // The sorts of lines that a report names: `replay ..`, frames, cycles, `event .. refused ..`, and what ends a log, `end ..` or `bad ..`.
-#[derive(Drop)]
+#[derive(Clone, Copy)]
 pub enum Sort {
     Headers,
     Frames,
@@ -15,28 +17,28 @@ pub enum Sort {
 }
 
 // What one log has in a place or under a number.
-#[derive(Drop)]
+#[derive(Clone, Copy)]
 pub enum Side {
     Nothing,
     There(log_lines::Line),
 }
 
 // Two logs are alike in a sort, or these are the first lines that differ.
-#[derive(Drop)]
+#[derive(Clone, Copy)]
 pub enum First {
     Alike,
     Differ(Side, Side),
 }
 
 // How many lines of a sort differ, and the first of them.
-#[derive(Drop)]
+#[derive(Clone, Copy)]
 pub struct Tally {
     pub count: u64,
     pub first: First,
 }
 
 // Where two logs part, sort by sort; how many frames and cycles differ; and the first line in which the two are not the same.
-#[derive(Drop)]
+#[derive(Clone, Copy)]
 pub struct Report {
     pub headers: First,
     pub frames: First,
@@ -49,14 +51,14 @@ pub struct Report {
 }
 
 // The last number of a sort, if there was one.
-#[derive(Drop)]
+#[derive(Clone, Copy)]
 pub enum Last {
     Nothing,
     At(u64),
 }
 
 // A line that the log goes on with, and the last frame and cycle numbers with it; or a text that is refused: 8, not a log line.
-#[derive(Drop)]
+#[derive(Clone, Copy)]
 pub enum Judged {
     Good(log_lines::Line, Last, Last),
     Strange,
@@ -109,14 +111,14 @@ pub fn judge(frames: Last, cycles: Last, text: &[u8]) -> Judged
 }
 
 // The number of the line at hand of one log, or that there is none.
-#[derive(Drop)]
+#[derive(Clone, Copy)]
 pub enum Front {
     Nothing,
     At(u64),
 }
 
 // What a walk over both logs does next: it is over; both lines are taken and are alike; the first log's is taken alone, or the second's alone; both are taken and differ.
-#[derive(Drop)]
+#[derive(Clone, Copy)]
 pub enum Turn {
     Over,
     Alike,

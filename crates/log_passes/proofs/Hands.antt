@@ -1,5 +1,5 @@
 -- The line that is taken is the next of the text, whatever comes behind the bytes at hand.
-use Prim.Native.Nat.{ℕ, suc, ◌+◌, ◌≤◌, ◌<◌}
+use Prim.Native.Nat.{ℕ, ◌≤◌, ◌<◌}
 use mathlib.Core.Path.{◌≡◌, refl, sym, ap, subst, ◌∙◌}
 use mathlib.Core.Bool.{Bool, true, false}
 use mathlib.Core.List.{List, [], ◌∷◌, ◌++◌}
@@ -10,7 +10,7 @@ use lib.ListN.{length, take, drop, drop_of_length-le, length-append}
 use lib.Seq.{length-take-le, take_all, take-append-le, take-take}
 use borrow.Author.Tests.{ltb-true, ltb-false}
 use Rattle.answers.specs.Pick.{pick, pick_case}
-use Rattle.log_text.specs.Text.{lines_of, split_into, empty}
+use Rattle.log_text.specs.Text.{lines_of, split_into}
 use Rattle.log_text.specs.Cut.{longest, first_newline, cut_at, cut_of, Behind, Tells}
 use Rattle.log_text.specs.declared.Piece.{Piece}
 use Rattle.log_text.specs.declared.Piece.TheVariants.{Line, Last, Long, Wants, Over}

@@ -1,24 +1,22 @@
 -- Request b: any host that hands the bytes of two logs to these calls ends in `parting` of their lines.
-use Prim.Native.Nat.{ℕ, ◌+◌, ◌^◌, ◌≤◌, ◌<◌}
-use mathlib.Core.Path.{◌≡◌, refl, sym, ap, subst, ◌∙◌}
-use mathlib.Core.List.{List, [], ◌∷◌, ◌++◌, map}
+use Prim.Native.Nat.{ℕ, ◌^◌, ◌≤◌, ◌<◌}
+use mathlib.Core.Path.{◌≡◌, refl, sym, ap, ◌∙◌}
+use mathlib.Core.List.{List, [], ◌∷◌, map}
 use native.Mathlib.Omega.{arith}
 use lib.ListN.{length, take}
-use Rattle.log_lines.specs.Lines.{text_of, in_range}
+use Rattle.log_lines.specs.Lines.{text_of}
 use Rattle.log_lines.specs.declared.Line.{Line}
-use Rattle.log_lines.specs.declared.Read.TheVariants as read
 use Rattle.log_text.specs.Apart as places
 use Rattle.log_text.specs.Text.{lines_of}
-use Rattle.answers.specs.Pick.{pick, pick_case}
+use Rattle.answers.specs.Pick.{pick_case}
 use Rattle.log_parts.specs.Sorts.{is_of, of_sort, AllRanged}
-use Rattle.log_parts.specs.Named.{line_in, Named, Lines, NotALog, named_from, named, GoodLog}
+use Rattle.log_parts.specs.Named.{Named, Lines, NotALog, named, GoodLog}
 use Rattle.log_parts.specs.Judged.{least_after}
 use Rattle.log_parts.specs.Numbers.{differing, first_by_number}
-use Rattle.log_parts.specs.Merge.{unmarked, merge}
-use Rattle.log_parts.specs.Parts.{by_order, Parted, NotALogLine, Same, Parts, report_of, compared, judged, parting}
+use Rattle.log_parts.specs.Merge.{merge}
+use Rattle.log_parts.specs.Parts.{by_order, Parted, NotALogLine, Parts, report_of, compared, judged, parting}
 use Rattle.log_parts.specs.declared.Sort.{Sort}
 use Rattle.log_parts.specs.declared.Sort.TheVariants.{Headers, Frames, Cycles, Refusals, Closings}
-use Rattle.log_parts.specs.declared.First.{First}
 use Rattle.log_parts.specs.declared.Tally.{Tally}
 use Rattle.log_parts.specs.declared.Report.{Report}
 use Rattle.log_parts.proofs.Named.{line_read, named_exactly}
@@ -27,7 +25,7 @@ use Rattle.log_parts.proofs.InOrder.{merge_orders, Plain, plain_sort}
 use Rattle.log_parts.proofs.Parts.{compares}
 use Rattle.log_passes.specs.Judging.{unread}
 use Rattle.log_passes.specs.Passing.{unbegun}
-use Rattle.log_passes.specs.Hosts.{Heard, Fine, Stops, heard, Judges, Ordered, Equal, From, ordered, Orders, Passes, Hosted, first_strange, second_strange, same, parts, shortened}
+use Rattle.log_passes.specs.Hosts.{Heard, Fine, Stops, heard, Judges, Equal, From, ordered, Passes, Hosted, first_strange, second_strange, same, parts, shortened}
 use Rattle.log_passes.proofs.Judges.{judges}
 use Rattle.log_passes.proofs.Orders.{orders}
 use Rattle.log_passes.proofs.Walks.{known, lines, passes}

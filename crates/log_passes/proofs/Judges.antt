@@ -1,5 +1,5 @@
 -- A host that goes by `judge_next` comes to what `named` says of the log.
-use Prim.Native.Nat.{ℕ, suc, ◌+◌, ◌^◌, ◌≤◌, ◌<◌, min}
+use Prim.Native.Nat.{ℕ, ◌+◌, ◌^◌, ◌≤◌, ◌<◌}
 use mathlib.Core.Path.{◌≡◌, refl, sym, ap, subst, ◌∙◌}
 use mathlib.Core.Bool.{Bool}
 use mathlib.Core.List.{List, [], ◌∷◌, ◌++◌}
@@ -15,17 +15,16 @@ use Rattle.log_parts.specs.Judged.{least_after, judged_text, judged_read, goes_a
 use Rattle.log_parts.specs.declared.Judged.{Judged}
 use Rattle.log_parts.specs.declared.Judged.TheVariants as judged
 use Rattle.log_parts.proofs.Judging.{judge_names, too_long}
-use Rattle.log_parts.proofs.Merges.{clash}
 use Rattle.log_passes.specs.Taking.{taken_in}
 use Rattle.log_passes.specs.Judging.{judged_as, judged_in}
-use Rattle.log_passes.specs.Hosts.{Holds, Heard, Fine, Stops, heard, Judges, goes, over, strange}
+use Rattle.log_passes.specs.Hosts.{Heard, Fine, Stops, heard, Judges, goes, over, strange}
 use Rattle.log_passes.specs.declared.taking.Taken.{Taken}
 use Rattle.log_passes.specs.declared.taking.Taken.TheVariants as taken
 use Rattle.log_passes.specs.declared.judging.Judging.{Judging}
 use Rattle.log_passes.specs.declared.judging.Judgement.{Judgement}
 use Rattle.log_passes.specs.declared.judging.Look.{Look}
 use Rattle.log_passes.specs.declared.judging.Look.TheVariants as look
-use Rattle.log_passes.proofs.Hands.{Longer, Next, Took, took}
+use Rattle.log_passes.proofs.Hands.{Took, took}
 
 -- what the texts that are left come to
 abbrev left : Judging → List (List ℕ) → Heard

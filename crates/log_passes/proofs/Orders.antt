@@ -1,12 +1,12 @@
 -- A host that goes by `beside_next` comes to the first place where the two lists of lines differ.
-use Prim.Native.Nat.{ℕ, ◌+◌, ◌^◌, ◌≤◌, ◌<◌}
-use mathlib.Core.Path.{◌≡◌, refl, sym, ap, subst, ◌∙◌}
+use Prim.Native.Nat.{ℕ, ◌+◌, ◌^◌, ◌<◌}
+use mathlib.Core.Path.{◌≡◌, sym, ap, subst, ◌∙◌}
 use mathlib.Core.Bool.{Bool}
 use mathlib.Core.List.{List, [], ◌∷◌, ◌++◌}
 use native.Mathlib.Omega.{arith}
 use lib.ListN.{length, take, drop}
 use Rattle.answers.specs.Numbers.{next_long_count}
-use Rattle.answers.specs.Pick.{pick, pick_true, pick_false, pick_case}
+use Rattle.answers.specs.Pick.{pick_true, pick_false, pick_case}
 use Rattle.log_text.specs.Apart as places
 use Rattle.log_text.specs.Text.{same_text, lines_of}
 use Rattle.log_text.specs.Cut.{Behind}

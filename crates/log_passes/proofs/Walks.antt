@@ -1,28 +1,26 @@
 -- A host that goes by `pass_next` comes to the merge of the two logs' lines of that sort.
 use Prim.Native.Nat.{ℕ, zero, suc, ◌+◌, ◌^◌, ◌≤◌, ◌<◌}
 use mathlib.Core.Path.{◌≡◌, refl, sym, ap, subst, ◌∙◌}
-use mathlib.Core.Bool.{Bool, true, false}
+use mathlib.Core.Bool.{Bool}
 use mathlib.Core.List.{List, [], ◌∷◌, ◌++◌}
 use native.Mathlib.Omega.{arith}
 use lib.ListN.{length, take, drop}
 use Rattle.answers.specs.Numbers.{next_long_count}
-use Rattle.answers.specs.Pick.{pick, pick_true, pick_false, pick_case}
-use Rattle.log_lines.specs.Lines.{text_of}
+use Rattle.answers.specs.Pick.{pick_true, pick_false, pick_case}
 use Rattle.log_lines.specs.declared.Line.{Line}
 use Rattle.log_lines.specs.declared.Read.{Read}
 use Rattle.log_lines.specs.declared.Read.TheVariants as read
-use Rattle.log_text.specs.Text.{same_text, lines_of}
+use Rattle.log_text.specs.Text.{lines_of}
 use Rattle.log_text.specs.Cut.{Behind}
-use Rattle.log_parts.specs.Sorts.{is_of, of_sort, number_of, same_line}
+use Rattle.log_parts.specs.Sorts.{is_of, of_sort, same_line}
 use Rattle.log_parts.specs.Named.{line_in}
 use Rattle.log_parts.specs.Merge.{or_else, noted, merge_in}
-use Rattle.log_parts.specs.Turns.{turn_of, front_of, same_fronts, after}
+use Rattle.log_parts.specs.Turns.{turn_of, after}
 use Rattle.log_parts.specs.declared.Sort.{Sort}
 use Rattle.log_parts.specs.declared.Side.{Side}
 use Rattle.log_parts.specs.declared.Side.TheVariants as side
 use Rattle.log_parts.specs.declared.First.TheVariants.{Differ}
 use Rattle.log_parts.specs.declared.Tally.{Tally}
-use Rattle.log_parts.specs.declared.Front.TheVariants as front
 use Rattle.log_parts.specs.declared.Turn.{Turn}
 use Rattle.log_parts.specs.declared.Turn.TheVariants as turn
 use Rattle.log_parts.proofs.Turning.{merge_turns}
@@ -39,7 +37,7 @@ use Rattle.log_passes.specs.declared.passing.Found.TheVariants as found
 use Rattle.log_passes.specs.declared.passing.Need.{Need}
 use Rattle.log_passes.specs.declared.passing.Need.TheVariants as need
 use Rattle.log_passes.specs.declared.passing.Step.{Step}
-use Rattle.log_passes.proofs.Hands.{Next, Took, took}
+use Rattle.log_passes.proofs.Hands.{Took, took}
 
 -- ---- the lines of a text, a text that is none left out: in a log there is none
 

@@ -1,9 +1,8 @@
 -- Request b: what a host comes to that hands these calls the bytes of two logs. At each step it holds some bytes from where it stands in a log, and says whether none come
 -- behind them. Where more are wanted it holds more and asks again, and nothing has changed; so only the other answers are told here.
-use Rattle.std.specs.Prelude.{ℕ, ◌≤◌, ◌<◌, ◌≡◌, Bool, List, [], ◌∷◌, ◌++◌, length, take, drop}
+use Rattle.std.specs.Prelude.{ℕ, ◌≡◌, Bool, List, ◌++◌, take, drop}
 use Rattle.log_text.specs.Apart as places
-use Rattle.log_text.specs.Text.{lines_of}
-use Rattle.log_text.specs.Cut.{longest, Behind}
+use Rattle.log_text.specs.Cut.{Behind}
 use Rattle.log_parts.specs.Named.{Named, Lines, NotALog}
 use Rattle.log_parts.specs.Parts.{Parted, NotALogLine, Same, Parts}
 use Rattle.log_parts.specs.declared.Sort.{Sort}

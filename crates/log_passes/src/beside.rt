@@ -7,7 +7,7 @@ use crate::taking;
 use crate::taking::Taken;
 
 // Both logs have the same line, and go on behind so many bytes; more bytes of one are wanted; both are over; here they part; a line that is none of a log.
-#[derive(Drop)]
+#[derive(Clone, Copy)]
 pub enum Ask {
     Goes(usize, usize),
     WantsFirst,
@@ -18,7 +18,7 @@ pub enum Ask {
 }
 
 // The number of the next line, and what is to be done.
-#[derive(Drop)]
+#[derive(Clone, Copy)]
 pub struct Beside {
     pub place: u64,
     pub ask: Ask,

@@ -9,7 +9,7 @@ use crate::taking::Taken;
 use log_parts::{Judged, Last};
 
 // The last frame and cycle numbers, and the number of the next line, the first being 1.
-#[derive(Drop)]
+#[derive(Clone, Copy)]
 pub struct Judging {
     pub frames: Last,
     pub cycles: Last,
@@ -18,7 +18,7 @@ pub struct Judging {
 
 // So many bytes were a line, and the log goes on behind them; more bytes are wanted; the log is over, and all its lines are good; the next line, whose first bytes these
 // are, is none of a log.
-#[derive(Drop)]
+#[derive(Clone, Copy)]
 pub enum Look {
     Goes(usize),
     Wants,
@@ -26,7 +26,7 @@ pub enum Look {
     Strange(usize),
 }
 
-#[derive(Drop)]
+#[derive(Clone, Copy)]
 pub struct Judgement {
     pub judging: Judging,
     pub look: Look,

@@ -13,13 +13,13 @@ use log_lines::{Line, Read};
 use log_parts::{First, Front, Side, Sort, Tally, Turn};
 
 // The next line of the sort in one log is still sought, or this stands there.
-#[derive(Drop)]
+#[derive(Clone, Copy)]
 pub enum Held {
     Sought,
     Has(Side),
 }
 
-#[derive(Drop)]
+#[derive(Clone, Copy)]
 pub struct Pass {
     pub first: Held,
     pub second: Held,
@@ -28,7 +28,7 @@ pub struct Pass {
 
 // A line of the sort, behind which the log goes on after so many bytes; a line of another sort, of so many bytes; nothing, for the log is over; more bytes are wanted; a
 // line that is none of a log.
-#[derive(Drop)]
+#[derive(Clone, Copy)]
 pub enum Found {
     Here(Line, usize),
     Other(usize),
@@ -38,7 +38,7 @@ pub enum Found {
 }
 
 // The pass goes on; more bytes of one log are wanted; it is over; a line that is none of a log.
-#[derive(Drop)]
+#[derive(Clone, Copy)]
 pub enum Need {
     Goes,
     WantsFirst,
@@ -48,7 +48,7 @@ pub enum Need {
 }
 
 // The pass, how many bytes of each log are used, and what is to be done.
-#[derive(Drop)]
+#[derive(Clone, Copy)]
 pub struct Step {
     pub pass: Pass,
     pub first_used: usize,

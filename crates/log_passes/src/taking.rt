@@ -5,7 +5,7 @@ ghost use Rattle.log_passes.specs.Taking.{Inside, taken_of, taken_in};
 use log_text::Piece;
 
 // What one log gives: the next line, of so many bytes, with which so many are used; nothing, for it is over; that more bytes are wanted; a line longer than any of a log.
-#[derive(Drop)]
+#[derive(Clone, Copy)]
 pub enum Taken {
     Text(usize, usize),
     Nothing,

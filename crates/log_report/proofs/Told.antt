@@ -1,5 +1,5 @@
 -- Request b: what a host tells is the text of `parting`, though of a line that is none it holds no more than 76 bytes.
-use Prim.Native.Nat.{ℕ, ◌^◌, ◌≤◌, ◌<◌}
+use Prim.Native.Nat.{ℕ, ◌^◌, ◌<◌}
 use mathlib.Core.Path.{◌≡◌, refl, sym, ap, ◌∙◌}
 use mathlib.Core.Bool.{Bool, true, false}
 use mathlib.Core.List.{List, ◌++◌}
@@ -7,9 +7,8 @@ use native.Mathlib.Omega.{arith}
 use lib.Dec.{leb}
 use lib.ListN.{length, take}
 use lib.Seq.{length-take-le, take_all, take-take}
-use borrow.Author.Tests.{leb-true, leb-false, le-leb, lt-leb}
-use Rattle.answers.specs.Pick.{pick, pick_false}
-use Rattle.log_lines.specs.Text.{ascii}
+use borrow.Author.Tests.{leb-true, leb-false, lt-leb}
+use Rattle.answers.specs.Pick.{pick_false}
 use Rattle.log_text.specs.Text.{lines_of}
 use Rattle.log_text.specs.Cut.{longest}
 use Rattle.log_parts.specs.Named.{line_in}
@@ -17,7 +16,7 @@ use Rattle.log_parts.specs.Parts.{Parted, NotALogLine, Same, Parts, parting}
 use Rattle.log_parts.proofs.Judging.{too_long}
 use Rattle.log_passes.specs.Hosts.{Hosted, shortened}
 use Rattle.log_passes.proofs.Hosts.{parted_is}
-use Rattle.log_report.specs.Texts.{ended, why_by, why_text, shown_text, strange_text, parted_text}
+use Rattle.log_report.specs.Texts.{ended, why_text, shown_text, strange_text, parted_text}
 
 -- of a line of more than 76 bytes the same is told as of its first 76
 long_told : (name : List ℕ) (place : ℕ) (t : List ℕ) → 76 < length t → strange_text name place (take 76 t) ≡ strange_text name place t

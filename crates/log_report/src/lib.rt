@@ -1,4 +1,6 @@
 // What is told of two logs: the text of a report, and of a line that is none of a log.
+#![tactic(auto)]
+
 ghost use Rattle.std.specs.Prelude.{◌≡◌, ◌++◌, ◌+◌, ◌≤◌, length};
 ghost use Rattle.log_lines.specs.Lines.{text_of};
 ghost use Rattle.log_lines.specs.Steps.{Put};

@@ -21,14 +21,14 @@ same_lists n [] (y ∷ ys) e = clash (cc)
 same_lists n (x ∷ xs) [] e = clash (cc)
 same_lists n (x ∷ xs) (y ∷ ys) e =
     pick_case (λ (a : Apart). a ≡ Same → x ∷ xs ≡ y ∷ ys) (same_text x y) _ _
-    (λ s e. let head : x ≡ y = same_texts x y s in let rest : xs ≡ ys = same_lists _ xs ys e in cc)
+    (λ s e. let head : x ≡ y = same_texts x y s in let rest : xs ≡ ys = same_lists (n + 1) xs ys e in cc)
     (λ s e. clash (cc))
     e
 
 apart_itself : (n : ℕ) (xs : List (List ℕ)) → first_apart n xs xs ≡ Same
 unfolding first_apart
 apart_itself n [] = refl
-apart_itself n (x ∷ xs) = pick_true _ _ _ (text_itself x) ∙ apart_itself _ xs
+apart_itself n (x ∷ xs) = pick_true _ _ _ (text_itself x) ∙ apart_itself (n + 1) xs
 
 -- request k: a log is accepted exactly if it is the log of its recording
 pub same_exactly : (n : ℕ) (xs ys : List (List ℕ)) → (first_apart n xs ys ≡ Same) ↔ (xs ≡ ys)
@@ -44,7 +44,7 @@ first_wrong n (a ∷ xs) [] k x y e =
     record { right = []; rest_of_first = a ∷ xs; rest_of_second = []; first = refl; second = refl; place = (let h : k ≡ n = cc in omega arith); stands = cc; should_stand = cc; differ = λ h. clash (cc) }
 first_wrong n (a ∷ xs) (b ∷ ys) k x y e =
     pick_case (λ (r : Apart). r ≡ At k x y → FirstWrong n (a ∷ xs) (b ∷ ys) k x y) (same_text a b) _ _
-    (λ s e. let r = first_wrong _ xs ys k x y e in
+    (λ s e. let r = first_wrong (n + 1) xs ys k x y e in
     record {
       right = a ∷ r.right;
       rest_of_first = r.rest_of_first;

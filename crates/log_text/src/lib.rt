@@ -1,4 +1,6 @@
 // A log as a list of lines: whether two are the same, and the next one among the bytes at hand.
+#![tactic(auto)]
+
 ghost use Rattle.std.specs.Prelude.{◌≡◌};
 ghost use Rattle.log_text.specs.Cut.{first_newline, cut_of};
 ghost use Rattle.log_text.specs.Text.{same_text};
@@ -11,7 +13,7 @@ pub fn same_text(a: &[u8], b: &[u8]) -> bool
 }
 
 // A line of so many bytes, a newline behind it; the last line, none behind it; a line longer than any of a log; more bytes are wanted; no line is left.
-#[derive(Drop)]
+#[derive(Clone, Copy)]
 pub enum Piece {
     Line(usize),
     Last(usize),

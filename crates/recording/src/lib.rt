@@ -1,4 +1,6 @@
 // Reads a recording: its header, its events and their samples.
+#![tactic(auto)]
+
 ghost use Rattle.std.specs.Prelude.{◌≡◌, ◌+◌, ◌^◌, ◌≤◌, ◌<◌, length, get_or};
 ghost use Rattle.recording.specs.Bytes.{number_at};
 ghost use Rattle.recording.specs.Recording;
@@ -9,7 +11,7 @@ ghost use Rattle.recording.specs.Samples.{bytes_of, samples_of, decoded, decoded
 
 // How a recording stores its samples: Plain is the form of the scope paper, with 24 bytes of header and f32 samples. Its siblings have 28 bytes of header, and
 // f32 samples (Floats) or signed 16-bit ones (Shorts).
-#[derive(Drop)]
+#[derive(Clone, Copy)]
 pub enum Form {
     Plain,
     Floats,
@@ -17,14 +19,14 @@ pub enum Form {
 }
 
 // The form that a header tells, if it tells one.
-#[derive(Drop)]
+#[derive(Clone, Copy)]
 pub enum Shape {
     Known(Form),
     NoForm,
 }
 
 // far and near are totals of samples.
-#[derive(Drop)]
+#[derive(Clone, Copy)]
 pub struct Header {
     pub form: Form,
     pub rate: u32,
@@ -34,13 +36,13 @@ pub struct Header {
     pub near: u32,
 }
 
-#[derive(Drop)]
+#[derive(Clone, Copy)]
 pub enum Start {
     Opened(Header),
     BadHeader,
 }
 
-#[derive(Drop)]
+#[derive(Clone, Copy)]
 pub enum Event {
     Far { count: u32 },
     Near { count: u32, first: u64 },
@@ -52,27 +54,27 @@ pub enum Event {
     Discontinuity,
 }
 
-#[derive(Drop)]
+#[derive(Clone, Copy)]
 pub enum Entry {
     Good(Event),
     Bad,
 }
 
 // How many samples of each input the events so far have used.
-#[derive(Drop)]
+#[derive(Clone, Copy)]
 pub struct Used {
     pub far: u64,
     pub near: u64,
 }
 
 // How many bytes the two sample inputs have.
-#[derive(Drop)]
+#[derive(Clone, Copy)]
 pub struct Lengths {
     pub far: u64,
     pub near: u64,
 }
 
-#[derive(Drop)]
+#[derive(Clone, Copy)]
 pub enum Admission {
     Enough(Used),
     Lacking,

@@ -1,18 +1,16 @@
 -- A conversion that came to its end: what is known of the recording, and what was given.
 use mathlib.Core.Path.{◌≡◌, refl, sym, ap, ◌∙◌}
-use mathlib.Core.Bool.{Bool, true, false, false≢true}
-use mathlib.Core.List.{List, ◌++◌}
-use Prim.Native.Nat.{ℕ, zero, suc, ◌+◌, ◌*◌, ◌^◌, ◌<◌, ◌≤◌}
+use mathlib.Core.Bool.{true, false≢true}
+use Prim.Native.Nat.{ℕ, ◌+◌, ◌*◌, ◌^◌, ◌<◌, ◌≤◌}
 use native.Mathlib.Nat.{le_antisymm}
 use native.Mathlib.Omega.{arith}
 use lib.Dec.{leb}
 use lib.ListN.{length, take, drop}
 use borrow.Author.Tests.{leb-true}
-use Rattle.answers.specs.Pick.{pick, both}
 use Rattle.answers.specs.Numbers.{allowed_rate, allowed_ceiling}
 use Rattle.answers.proofs.Passed.{both_true}
-use Rattle.recording.specs.Recording.{u32_at, offset_of, header_at, opened, header_bytes}
-use Rattle.recording.specs.Samples.{bytes_of, used_up, all_used}
+use Rattle.recording.specs.Recording.{offset_of, opened}
+use Rattle.recording.specs.Samples.{used_up, all_used}
 use Rattle.recording.specs.declared.Form.{Form}
 use Rattle.recording.specs.declared.Form.TheVariants.{Plain, Floats, Shorts}
 use Rattle.recording.specs.declared.Header.{Header}
@@ -21,13 +19,13 @@ use Rattle.recording.specs.declared.Start.TheVariants as start
 use Rattle.recording.specs.declared.Used.{Used}
 use Rattle.recording.proofs.Theorems.{header_back}
 use Rattle.recording.proofs.Forms.{opened_header, opened_allowed, opened_whole}
-use Rattle.recording_convert.specs.Whole.{Recording, whole_from, whole_at, whole_recording}
-use Rattle.recording_convert.specs.Converting.{form_from, form_to, stored, as_form, written, Converting, Converted, OtherForm, convert_from, same_form, form_is, converted_as, converted}
-use Rattle.recording_convert.specs.Inputs.{AreBytes, OfBytes}
+use Rattle.recording_convert.specs.Whole.{Recording, whole_at, whole_recording}
+use Rattle.recording_convert.specs.Converting.{form_from, form_to, as_form, written, Converted, OtherForm, same_form, form_is, converted_as, converted}
+use Rattle.recording_convert.specs.Inputs.{AreBytes}
 use Rattle.recording_convert.specs.declared.Direction.{Direction}
 use Rattle.recording_convert.proofs.Numbers.{number_below}
 use Rattle.recording_convert.proofs.Walk.{Trace, trace_of, Stands, at_end}
-use Rattle.recording_convert.proofs.Refusing.{Taken, taken}
+use Rattle.recording_convert.proofs.Refusing.{taken}
 use Rattle.recording_convert.proofs.Given.{trace_long}
 
 abbrev pub totals : Header → Used

@@ -1,24 +1,21 @@
 -- What a conversion gives: the same events, and samples that mean the same.
 use mathlib.Core.Path.{◌≡◌, refl, sym, ap, ◌∙◌}
-use mathlib.Core.Bool.{Bool, true, false, false≢true}
+use mathlib.Core.Bool.{Bool, true, false}
 use mathlib.Core.List.{List, [], ◌∷◌, ◌++◌}
-use Prim.Native.Nat.{ℕ, zero, suc, ◌+◌, ◌-◌, ◌*◌, ◌^◌, ◌<◌, ◌≤◌}
+use Prim.Native.Nat.{ℕ, zero, suc, ◌+◌, ◌*◌, ◌^◌, ◌<◌, ◌≤◌}
 use native.Mathlib.Omega.{arith}
-use lib.Dec.{leb}
 use lib.Ieee.{Float}
-use lib.ListN.{length, take, drop, length-append, length-take, length-drop, take-append-drop}
+use lib.ListN.{length, take, drop, length-append, length-drop, take-append-drop}
 use lib.Seq.{length-take-le, drop-append-add}
 use borrow.Author.Tests.{le-leb, leb-true}
 use Rattle.answers.specs.Pick.{pick, pick_true}
-use Rattle.recording.specs.Bytes.{number_at, bytes}
-use Rattle.recording.specs.Recording.{offset_of, opened, header_bytes, event_of, event_at}
-use Rattle.recording.specs.Samples.{width, bytes_of, sample_of, sample_at, samples_in, used_up, supplied, admitted, all_used}
+use Rattle.recording.specs.Bytes.{number_at}
+use Rattle.recording.specs.Recording.{offset_of, header_bytes, event_at}
+use Rattle.recording.specs.Samples.{width, bytes_of, sample_of, sample_at, samples_in, used_up, supplied, admitted}
 use Rattle.recording.specs.declared.Form.{Form}
 use Rattle.recording.specs.declared.Form.TheVariants.{Plain, Floats, Shorts}
 use Rattle.recording.specs.declared.Header.{Header}
-use Rattle.recording.specs.declared.Start.TheVariants as start
 use Rattle.recording.specs.declared.Used.{Used}
-use Rattle.recording.specs.declared.Admission.{Admission}
 use Rattle.recording.specs.declared.Admission.TheVariants as admission
 use Rattle.recording.specs.declared.Event.{Event}
 use Rattle.recording.specs.declared.Event.TheVariants as event
@@ -30,10 +27,10 @@ use Rattle.recording_convert.specs.Whole.{Recording, lengths_of, entry_of}
 use Rattle.recording_convert.specs.Converting.{form_from, form_to, sample_to, bits_at, Stored, stored, as_form, written}
 use Rattle.recording_convert.specs.Inputs.{AreBytes}
 use Rattle.recording_convert.specs.declared.Direction.{Direction}
-use Rattle.recording_convert.proofs.Samples.{Fine, sample_back, stored_length, stored_reads}
+use Rattle.recording_convert.proofs.Samples.{Fine, sample_back, stored_reads}
 use Rattle.recording_convert.proofs.Numbers.{number_below}
 use Rattle.answers.proofs.Passed.{both_true}
-use Rattle.recording_convert.proofs.Walk.{Trace, done, one, Stands, enough}
+use Rattle.recording_convert.proofs.Walk.{Trace, done, one, enough}
 
 -- ---- events
 

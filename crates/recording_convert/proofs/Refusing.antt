@@ -2,7 +2,7 @@
 use mathlib.Core.Path.{◌≡◌, refl, sym, ap, ◌∙◌}
 use mathlib.Core.Bool.{Bool, true, false, false≢true}
 use mathlib.Core.List.{List}
-use Prim.Native.Nat.{ℕ, zero, suc, ◌+◌, ◌*◌, ◌<◌, ◌≤◌}
+use Prim.Native.Nat.{ℕ, zero, suc, ◌+◌, ◌<◌}
 use native.Mathlib.Omega.{arith}
 use Rattle.answers.specs.Pick.{pick, both, pick_false}
 use Rattle.answers.proofs.Passed.{both_true}
@@ -12,9 +12,8 @@ use Rattle.recording.specs.declared.Header.{Header}
 use Rattle.recording.specs.declared.Start.{Start}
 use Rattle.recording.specs.declared.Start.TheVariants as start
 use Rattle.recording.specs.declared.Used.{Used}
-use Rattle.recording.specs.declared.Entry.{Entry}
 use Rattle.recording_convert.specs.Whole.{Recording, entry_of, used_by, whole_recording}
-use Rattle.recording_convert.specs.Converting.{form_from, Sample, Stored, Strange, sample_to, bits_at, Found, Nowhere, Behind, one_later, or_later, first_strange, written, Converting, Converted, Unrepresentable, OtherForm, strange_of, side_of, place_on, used_after, unless, convert_from, form_is, converted_as, converted}
+use Rattle.recording_convert.specs.Converting.{form_from, Sample, Stored, Strange, sample_to, bits_at, Found, Nowhere, Behind, one_later, or_later, first_strange, written, Converting, Unrepresentable, OtherForm, strange_of, side_of, place_on, used_after, unless, convert_from, form_is, converted_as, converted}
 use Rattle.recording_convert.specs.declared.Direction.{Direction}
 use Rattle.recording_convert.specs.declared.Side.{Side}
 

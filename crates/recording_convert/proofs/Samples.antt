@@ -1,18 +1,17 @@
 -- Samples there and back.
 use mathlib.Core.Path.{◌≡◌, refl, sym, ap, ◌∙◌}
-use mathlib.Core.Bool.{true, false}
-use mathlib.Core.List.{List, [], ◌++◌}
+use mathlib.Core.List.{List, ◌++◌}
 use mathlib.Core.Logic.{inl, inr}
-use Prim.Native.Nat.{ℕ, zero, suc, ◌+◌, ◌*◌, ◌^◌, ◌<◌, ◌≤◌}
+use Prim.Native.Nat.{ℕ, zero, suc, ◌+◌, ◌^◌, ◌<◌, ◌≤◌}
 use native.Mathlib.Nat.{eq-or-lt_of_le}
 use native.Mathlib.Omega.{arith}
 use lib.Dec.{eqb}
 use lib.ListN.{length, take, drop, length-append}
 use lib.Seq.{take-add}
-use lib.Ieee.{Float, binary32, of_bits, to_bits}
+use lib.Ieee.{binary32, of_bits}
 use lib.Ieee.Bits.{to_bits-lt}
 use borrow.Author.Tests.{eqb-true}
-use Rattle.answers.specs.Pick.{pick, pick_case}
+use Rattle.answers.specs.Pick.{pick_case}
 use Rattle.recording_shorts.specs.Shorts.{short_sample, quotient_bits, short_among, short_of}
 use Rattle.recording_shorts.specs.declared.Short.{Short}
 use Rattle.recording_shorts.specs.declared.Short.TheVariants as short

@@ -1,18 +1,18 @@
 -- There and back gives the same bytes, up to the end that the header announces.
 use mathlib.Core.Path.{◌≡◌, refl, sym, ap, ◌∙◌, subst}
-use mathlib.Core.Bool.{Bool, true, false, false≢true}
-use mathlib.Core.List.{List, [], ◌++◌, append-nil}
-use Prim.Native.Nat.{ℕ, zero, suc, ◌+◌, ◌*◌, ◌<◌, ◌≤◌}
+use mathlib.Core.Bool.{Bool, true, false}
+use mathlib.Core.List.{List, ◌++◌, append-nil}
+use Prim.Native.Nat.{ℕ, ◌+◌, ◌*◌, ◌<◌, ◌≤◌}
 use native.Mathlib.Nat.{le_refl}
 use native.Mathlib.Omega.{arith}
 use lib.Dec.{leb, eqb}
-use lib.ListN.{length, take, drop, length-drop}
+use lib.ListN.{length, take, drop}
 use lib.Seq.{take-add, take-take, drop_at}
 use borrow.Author.Tests.{le-leb, leb-true, eqb-true}
 use Rattle.answers.specs.Pick.{pick, both, pick_true, pick_case}
 use Rattle.answers.proofs.Passed.{both_true}
 use Rattle.recording.specs.Bytes.{bytes}
-use Rattle.recording.specs.Recording.{u32_at, offset_of, sibling_of, shape_at, header_at, headed, opened, header_bytes}
+use Rattle.recording.specs.Recording.{u32_at, offset_of, shape_at, header_at, headed, opened, header_bytes}
 use Rattle.recording.specs.Samples.{bytes_of, used_up, supplied, admitted, all_used}
 use Rattle.recording.specs.declared.Form.{Form}
 use Rattle.recording.specs.declared.Form.TheVariants.{Plain, Floats, Shorts}

@@ -1,9 +1,9 @@
 -- A conversion that came to its end: event by event, each good, admitted and without a strange sample.
-use mathlib.Core.Path.{◌≡◌, refl, sym, ap, ◌∙◌}
+use mathlib.Core.Path.{◌≡◌, refl, ap, ◌∙◌}
 use mathlib.Core.Bool.{Bool, true, false, false≢true}
 use mathlib.Core.List.{List}
 use mathlib.Core.Logic.{inl, inr}
-use Prim.Native.Nat.{ℕ, zero, suc, ◌+◌, ◌-◌, ◌*◌, ◌<◌, ◌≤◌}
+use Prim.Native.Nat.{ℕ, zero, suc, ◌+◌, ◌-◌, ◌≤◌}
 use native.Mathlib.Omega.{arith}
 use lib.Dec.{leb}
 use lib.ListN.{length}
@@ -11,7 +11,6 @@ use borrow.Author.Tests.{leb-true}
 use Rattle.answers.specs.Pick.{pick}
 use Rattle.answers.proofs.Passed.{both_true}
 use Rattle.floats.proofs.Compare.{le_or_lt}
-use Rattle.recording.specs.Recording.{offset_of, event_at}
 use Rattle.recording.specs.Samples.{bytes_of, used_up, supplied, admitted, all_used}
 use Rattle.recording.specs.declared.Header.{Header}
 use Rattle.recording.specs.declared.Used.{Used}
@@ -22,7 +21,7 @@ use Rattle.recording.specs.declared.Event.TheVariants as event
 use Rattle.recording.specs.declared.Entry.{Entry}
 use Rattle.recording.specs.declared.Entry.TheVariants as entry
 use Rattle.recording_convert.specs.Whole.{Recording, lengths_of, entry_of, used_by, then_whole, whole_from}
-use Rattle.recording_convert.specs.Converting.{form_from, sample_to, bits_at, Stored, Found, Nowhere, Behind, written, Converting, Converted, Unrepresentable, strange_of, side_of, place_on, used_after, unless, convert_from}
+use Rattle.recording_convert.specs.Converting.{form_from, sample_to, bits_at, Found, Nowhere, Behind, written, Converting, Converted, Unrepresentable, strange_of, side_of, place_on, used_after, unless, convert_from}
 use Rattle.recording_convert.specs.declared.Direction.{Direction}
 use Rattle.recording_convert.proofs.Samples.{Fine, fine_of}
 

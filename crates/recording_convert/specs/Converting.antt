@@ -1,5 +1,5 @@
 -- SPECIFICATION 12: a recording of 16-bit samples as one of the scope paper's form, and back.
-use Rattle.std.specs.Prelude.{ℕ, zero, suc, ◌+◌, ◌*◌, Bool, true, false, List, [], ◌++◌, length, take, drop}
+use Rattle.std.specs.Prelude.{ℕ, zero, suc, ◌+◌, ◌*◌, Bool, true, false, List, [], ◌++◌, take, drop}
 use Rattle.answers.specs.Pick.{pick, both}
 use Rattle.recording_shorts.specs.Shorts.{quotient_bits, short_of}
 use Rattle.recording_shorts.specs.declared.Short.{Short}
@@ -13,7 +13,6 @@ use Rattle.recording.specs.declared.Header.{Header}
 use Rattle.recording.specs.declared.Start.{Start}
 use Rattle.recording.specs.declared.Start.TheVariants as start
 use Rattle.recording.specs.declared.Used.{Used}
-use Rattle.recording.specs.declared.Event.{Event}
 use Rattle.recording.specs.declared.Event.TheVariants as event
 use Rattle.recording.specs.declared.Entry.{Entry}
 use Rattle.recording.specs.declared.Entry.TheVariants as entry

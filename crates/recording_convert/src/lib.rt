@@ -1,4 +1,6 @@
 // A recording of 16-bit samples as one of the scope paper's form, and back.
+#![tactic(auto)]
+
 ghost use Rattle.std.specs.Prelude.{◌≡◌};
 ghost use Rattle.recording.specs.Recording.{event_at};
 ghost use Rattle.recording_convert.specs.Whole.{judged};
@@ -6,14 +8,14 @@ ghost use Rattle.recording_convert.specs.Whole.{judged};
 use recording::{Admission, Entry, Header, Lengths, Used};
 
 // Which way: from signed 16-bit samples to f32 ones, or from f32 samples to 16-bit ones.
-#[derive(Drop)]
+#[derive(Clone, Copy)]
 pub enum Direction {
     ToFloats,
     ToShorts,
 }
 
 // The input that an event has samples of, if it has any.
-#[derive(Drop)]
+#[derive(Clone, Copy)]
 pub enum Side {
     FarSide,
     NearSide,

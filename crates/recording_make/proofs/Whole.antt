@@ -8,7 +8,7 @@ use native.Mathlib.Omega.{arith}
 use lib.Dec.{ltb, leb}
 use lib.ListN.{length, length-append}
 use borrow.Author.Tests.{lt-ltb, ltb-true, ltb-false, leb-true, le-leb}
-use Rattle.answers.specs.Pick.{both, either, pick_true, pick_false, pick_all, pick_case}
+use Rattle.answers.specs.Pick.{either, pick_true, pick_false, pick_all, pick_case}
 use Rattle.answers.specs.Numbers.{limit, allowed_rate, allowed_ceiling}
 use Rattle.answers.proofs.Passed.{both_true, within_most}
 use Rattle.recording.specs.Recording.{offset_of, opened, header_bytes, event_bytes, event_at, some_samples, allowed}

@@ -1,4 +1,6 @@
 // Makes a recording of two sounds: its header, and event by event.
+#![tactic(auto)]
+
 ghost use Rattle.std.specs.Prelude.{◌≡◌, ◌∷◌, [], ◌++◌, ◌+◌, ◌%◌, ◌≤◌, ◌<◌, leb};
 ghost use Rattle.answers.specs.Numbers.{limit};
 ghost use Rattle.recording.specs.Bytes.{bytes};
@@ -9,7 +11,7 @@ use recording::{Form, Header, Used};
 use wav::{Kind, Sound};
 
 // What is to be made: near sample k has index start + k.
-#[derive(Drop)]
+#[derive(Clone, Copy)]
 pub struct Plan {
     pub header: Header,
     pub start: u64,
@@ -17,7 +19,7 @@ pub struct Plan {
 
 // Why two sounds make no recording: one has 16-bit samples and the other floats; their rates differ, or are outside the table; the ceiling is outside it; an index
 // would pass the limit.
-#[derive(Drop)]
+#[derive(Clone, Copy)]
 pub enum Planned {
     Fits(Plan),
     OtherKinds,
@@ -27,7 +29,7 @@ pub enum Planned {
 }
 
 // The next event: samples that were played, samples that were heard, or none.
-#[derive(Drop)]
+#[derive(Clone, Copy)]
 pub enum Next {
     Played { count: u32 },
     Heard { count: u32, first: u64 },
@@ -35,7 +37,7 @@ pub enum Next {
 }
 
 // It, and what is used behind it.
-#[derive(Drop)]
+#[derive(Clone, Copy)]
 pub struct Step {
     pub next: Next,
     pub used: Used,
@@ -234,7 +236,7 @@ pub fn event_bytes(next: Next) -> [u8; 16]
     }
 }
 
-#[derive(Drop)]
+#[derive(Clone, Copy)]
 struct Quad(u8, u8, u8, u8);
 
 fn four(v: u32) -> Quad

@@ -7,7 +7,7 @@ use native.Mathlib.Nat.{eq-or-lt_of_le}
 use native.Mathlib.Omega.{arith}
 use lib.Dec.{eqb}
 use borrow.Author.Tests.{ne_eqb, eqb-true, eqb-false}
-use Rattle.answers.specs.Pick.{pick, pick_true, pick_false, pick_case}
+use Rattle.answers.specs.Pick.{pick_false, pick_case}
 use Rattle.recording_shorts.specs.Shorts.{quotient_bits, short_among, short_of}
 use Rattle.recording_shorts.specs.declared.Short.{Short}
 use Rattle.recording_shorts.specs.declared.Short.TheVariants.{Number, None}

@@ -1,9 +1,11 @@
 // Signed 16-bit samples: what a number means as f32, and which number an f32 is.
+#![tactic(auto)]
+
 ghost use Rattle.std.specs.Prelude.{◌≡◌};
 ghost use Rattle.recording_shorts.specs.Shorts.{short_sample, quotient_bits, short_of};
 ghost use Rattle.recording_shorts.specs.Steps.{SizeOf, Guessed};
 
-#[derive(Drop)]
+#[derive(Clone, Copy)]
 pub enum Short {
     Number(u16),
     None,

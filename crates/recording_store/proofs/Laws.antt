@@ -1,14 +1,14 @@
 -- Samples found fine, and written one behind the other.
 use mathlib.Core.Path.{◌≡◌, refl, sym, ap, ◌∙◌}
 use mathlib.Core.Bool.{Bool, true, false, true≢false, false≢true}
-use mathlib.Core.List.{List, [], ◌∷◌, ◌++◌}
+use mathlib.Core.List.{List, ◌++◌}
 use mathlib.Core.Logic.{inl, inr}
 use Prim.Native.Nat.{ℕ, zero, suc, ◌+◌, ◌-◌, ◌*◌, ◌/◌, ◌%◌, ◌<◌, ◌≤◌}
 use native.Mathlib.Nat.{eq-or-lt_of_le}
 use native.Mathlib.Omega.{arith}
 use lib.Dec.{ltb, leb}
-use lib.ListN.{length, take, drop, set, length-append, length-drop}
-use lib.Seq.{sets, sets-eq, take_at, drop_at, drop-append-add, drop-drop}
+use lib.ListN.{length, drop, set, length-append, length-drop}
+use lib.Seq.{sets, sets-eq, take_at, drop-append-add, drop-drop}
 use borrow.Author.Tests.{lt-ltb, ltb-true, le-ltb, le-leb, lt-leb}
 use Rattle.answers.specs.Pick.{pick, both, pick_true, pick_false}
 use Rattle.answers.proofs.Passed.{both_true}
@@ -16,7 +16,7 @@ use Rattle.recording.specs.Bytes.{bytes}
 use Rattle.recording.specs.Samples.{width, bytes_of}
 use Rattle.recording.specs.declared.Header.{Header}
 use Rattle.recording.proofs.Forms.{bytes_mono}
-use Rattle.recording_convert.specs.Converting.{form_from, form_to, Sample, Stored, Strange, sample_to, bits_at, stored_bytes, stored, Found, Nowhere, Behind, one_later, or_later, first_strange}
+use Rattle.recording_convert.specs.Converting.{form_from, form_to, Sample, Stored, Strange, sample_to, bits_at, stored_bytes, stored, Nowhere, Behind, one_later, or_later, first_strange}
 use Rattle.recording_convert.specs.declared.Direction.{Direction}
 use Rattle.recording_convert.specs.declared.Direction.TheVariants.{ToFloats, ToShorts}
 use Rattle.recording_convert.proofs.Numbers.{bytes_length}
@@ -25,8 +25,6 @@ use Rattle.recording_store.specs.Steps.{code_of, is_fine, bits_in, code_at, foun
 use Rattle.recording_store.specs.Storing.{fits, told, storing, or_none, stored_into, header_stored, headed_into}
 use Rattle.recording_store.specs.declared.Storing.{Storing}
 use Rattle.recording_store.specs.declared.Storing.TheVariants.{NoRoom, StrangeAt, All}
-use Rattle.recording_store.specs.declared.Code.{Code}
-use Rattle.recording_store.specs.declared.Code.TheVariants.{Bits, Odd}
 
 -- ---- which samples are fine
 

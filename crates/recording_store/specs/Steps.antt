@@ -1,6 +1,6 @@
 -- The contracts between the parts of the code, for functions that are not public.
-use Rattle.std.specs.Prelude.{ℕ, ◌<◌, ◌≤◌, ◌≡◌, Bool, true, false, List, ◌++◌, ltb}
-use Rattle.answers.specs.Pick.{pick, both}
+use Rattle.std.specs.Prelude.{ℕ, Bool, true, false, List, ◌++◌, ltb}
+use Rattle.answers.specs.Pick.{pick}
 use Rattle.recording.specs.Bytes.{bytes}
 use Rattle.recording.specs.declared.Header.{Header}
 use Rattle.recording_convert.specs.Converting.{form_from, Sample, Stored, Strange, sample_to, bits_at, Found, Nowhere, Behind}

@@ -1,4 +1,6 @@
 // The samples of an event, converted into lent bytes, all or nothing: where a sample is strange no byte is written, and its place is answered.
+#![tactic(auto)]
+
 ghost use Rattle.std.specs.Prelude.{◌≡◌, ◌++◌, ◌+◌, ◌≤◌, ltb, length, drop};
 ghost use Rattle.std.proofs.lemmas.List.Edits.{sets};
 ghost use Rattle.answers.specs.Pick.{both};
@@ -14,7 +16,7 @@ use recording_shorts::Short;
 
 // What became of an event's samples. NoRoom: not all their bytes are there, or there is no room for them. StrangeAt: one of them is no sample of the other kind, and so many stand
 // before it. All: they are written, in so many bytes.
-#[derive(Drop)]
+#[derive(Clone, Copy)]
 pub enum Storing {
     NoRoom,
     StrangeAt(u32),
@@ -22,7 +24,7 @@ pub enum Storing {
 }
 
 // A sample of the other kind, if it is one.
-#[derive(Drop)]
+#[derive(Clone, Copy)]
 enum Code {
     Bits(u32),
     Odd,

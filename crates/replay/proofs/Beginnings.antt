@@ -1,13 +1,11 @@
 -- What a start comes to, refused and not.
 use Prim.Native.Nat.{ℕ}
 use mathlib.Core.Path.{◌≡◌, sym, ap, ◌∙◌}
-use mathlib.Core.List.{List}
-use mathlib.Core.Bool.{Bool, true}
+use mathlib.Core.Bool.{true}
 use lib.Dec.{eqb}
 use lib.ListN.{length}
-use lib.Ieee.{Float}
 use borrow.Author.Tests.{eqb-true}
-use Rattle.answers.specs.Pick.{both, pick_true}
+use Rattle.answers.specs.Pick.{pick_true}
 use Rattle.answers.specs.Numbers.{allowed_rate}
 use Rattle.answers.proofs.Refusals.{passed}
 use Rattle.folds.specs.Sums.{zeros}

@@ -3,7 +3,6 @@ use Prim.Native.Nat.{ℕ}
 use mathlib.Core.Path.{◌≡◌, refl, ap, ◌∙◌}
 use mathlib.Core.List.{List, [], ◌∷◌, ◌++◌}
 use Rattle.answers.specs.Pick.{pick}
-use Rattle.scan.specs.Bins.{geometry_of}
 use Rattle.tracker.specs.Tracker.{bands_of, same_bands, state_refusal, fresh}
 use Rattle.tracker.specs.Cycle.{unconfident_cycle, edge_cycle, jumped, outside_bands, confirmed, landing, contradicts, escalated, outside_cycle, interior_cycle, judged, cycle_refusal, cycled}
 use Rattle.log_lines.specs.Text.{ascii, digits, decimal}

@@ -5,7 +5,7 @@ use Rattle.answers.specs.Numbers.{next_long_count}
 use Rattle.units.specs.Units.{samples}
 use Rattle.units.specs.declared.Samples.{Samples}
 use Rattle.scan.specs.Bins.{full_slack}
-use Rattle.scan.specs.State.{Buffers, World}
+use Rattle.scan.specs.State.{Buffers}
 use Rattle.scan.specs.Calls.{pushed_far, pushed_near, observed, rearmed, discarded, FarPush, Clearing}
 use Rattle.scan.specs.Steps.{with_envelope, with_levels, with_lag_sums}
 use Rattle.scan.specs.declared.Scan.{Scan}

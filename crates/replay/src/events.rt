@@ -66,7 +66,7 @@ pub fn next_with_tracker(session: Session, used: Used, tracker: Tracker, cycles:
 }
 
 // A run over the samples that pass: what it left, how many they are, and the index after them.
-#[derive(Drop)]
+#[derive(Clone, Copy)]
 pub struct Passed {
     pub session: Session,
     pub count: usize,

@@ -1,4 +1,6 @@
 // The log of a recording: what stands before its first event and what closes it; how the answers of scan and tracker read in it.
+#![tactic(auto)]
+
 pub mod words; // how the answers of scan and tracker read in a log
 pub mod events; // a session with one part anew, and a run of near samples
 pub mod starting; // the session and the buffers before the first event
@@ -15,7 +17,7 @@ use scan::Scan;
 use tracker::Tracker;
 
 // What is carried from one event to the next, beside the scan's lent buffers. frames and cycles are the numbers of the next of each.
-#[derive(Drop)]
+#[derive(Clone, Copy)]
 pub struct Session {
     pub scan: Scan,
     pub tracker: Tracker,
@@ -25,7 +27,7 @@ pub struct Session {
 }
 
 // A session, or the number with which the start is refused: 1 or 2.
-#[derive(Drop)]
+#[derive(Clone, Copy)]
 pub enum Begun {
     Refused(u8),
     Ready(Session),

@@ -1,11 +1,9 @@
 -- A recording and what it is converted to have one log: the same events, and samples that are the same floats.
 use mathlib.Core.Path.{◌≡◌, refl, sym, ap, ◌∙◌}
-use mathlib.Core.Bool.{true}
 use mathlib.Core.List.{List, [], ◌∷◌, ◌++◌}
-use Prim.Native.Nat.{ℕ, zero, suc, ◌+◌, ◌*◌, ◌<◌, ◌≤◌}
+use Prim.Native.Nat.{ℕ, ◌+◌, ◌≤◌}
 use native.Mathlib.Omega.{arith}
 use lib.Dec.{leb}
-use lib.Ieee.{Float}
 use lib.ListN.{length, drop}
 use borrow.Author.Tests.{leb-true}
 use Rattle.answers.specs.Pick.{pick}
@@ -14,8 +12,7 @@ use Rattle.scan.specs.Bins.{geometry_of}
 use Rattle.scan.specs.State.{Buffers}
 use Rattle.log_lines.specs.declared.Line.{Line}
 use Rattle.log_lines.specs.declared.Line.TheVariants as line
-use Rattle.recording.specs.Recording.{offset_of, opened}
-use Rattle.recording.specs.Samples.{bytes_of, samples_in, part, samples_of, used_up, supplied, admitted, all_used}
+use Rattle.recording.specs.Samples.{bytes_of, part, samples_of, used_up, supplied, admitted, all_used}
 use Rattle.recording.specs.declared.Form.{Form}
 use Rattle.recording.specs.declared.Header.{Header}
 use Rattle.recording.specs.declared.Start.TheVariants as start
@@ -26,12 +23,12 @@ use Rattle.recording.specs.declared.Event.TheVariants as event
 use Rattle.recording.specs.declared.Entry.{Entry}
 use Rattle.recording.specs.declared.Entry.TheVariants as entry
 use Rattle.recording.proofs.Forms.{bytes_mono}
-use Rattle.recording_convert.specs.Whole.{Recording, lengths_of, entry_of}
+use Rattle.recording_convert.specs.Whole.{Recording, lengths_of}
 use Rattle.recording_convert.specs.Converting.{form_from, form_to, stored, as_form, written, Converted, converted}
 use Rattle.recording_convert.specs.Inputs.{AreBytes, OfBytes}
 use Rattle.recording_convert.specs.declared.Direction.{Direction}
 use Rattle.recording_convert.proofs.Samples.{Fine, stored_length}
-use Rattle.recording_convert.proofs.Walk.{Trace, done, one, Stands, enough, behind_event}
+use Rattle.recording_convert.proofs.Walk.{Trace, done, one, enough}
 use Rattle.recording_convert.proofs.Given.{same_entry, same_samples, same_admission}
 use Rattle.recording_convert.proofs.Came.{totals, Came, came, given_opens}
 use Rattle.replay.specs.Events.{Play, with_used, event_played, after_admission, stepped}

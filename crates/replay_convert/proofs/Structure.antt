@@ -1,5 +1,5 @@
 -- A log has a line that begins with `bad` exactly if the recording is not whole: admission does not look at samples, and no event that is admitted logs such a line.
-use mathlib.Core.Path.{◌≡◌, refl, sym, ap, ◌∙◌}
+use mathlib.Core.Path.{◌≡◌, refl, ap, ◌∙◌}
 use mathlib.Core.Bool.{Bool, true, false, not, true≢false}
 use mathlib.Core.List.{List, [], ◌∷◌, ◌++◌}
 use Prim.Native.Nat.{ℕ, zero, suc, ◌+◌}
@@ -17,7 +17,6 @@ use Rattle.scan.specs.declared.Taking.{Taking}
 use Rattle.scan.specs.declared.Taking.TheVariants as taking
 use Rattle.scan.specs.declared.Scoring.{Scoring}
 use Rattle.scan.specs.declared.Scoring.TheVariants as scoring
-use Rattle.tracker.specs.Cycle.{cycled}
 use Rattle.tracker.specs.declared.Verdict.{Verdict}
 use Rattle.tracker.specs.declared.Verdict.TheVariants as verdict
 use Rattle.log_lines.specs.Lines.{text_of}

@@ -1,10 +1,8 @@
 -- What an entry's turn comes to, kind by kind.
-use Prim.Native.Nat.{ℕ, zero, suc, ◌+◌, ◌*◌, ◌≤◌}
+use Prim.Native.Nat.{ℕ, zero, suc, ◌+◌, ◌≤◌}
 use mathlib.Core.Path.{◌≡◌, refl, ap, ◌∙◌}
 use mathlib.Core.Bool.{true, false}
-use mathlib.Core.List.{List}
 use native.Mathlib.Omega.{arith}
-use lib.Ieee.{Float}
 use lib.ListN.{length}
 use borrow.Author.Tests.{leb-true}
 use Rattle.answers.specs.Pick.{pick, pick_true, pick_false}
@@ -16,7 +14,7 @@ use Rattle.scan.specs.State.{Buffers}
 use Rattle.scan.specs.Calls.{pushed_far, rearmed, discarded, FarPush, Clearing}
 use Rattle.scan.specs.Steps.{with_envelope, with_lag_sums}
 use Rattle.log_lines.specs.declared.Line.TheVariants as line
-use Rattle.recording.specs.Samples.{bytes_of, samples_in, supplied, used_up, admitted}
+use Rattle.recording.specs.Samples.{bytes_of, samples_in, used_up, admitted}
 use Rattle.recording.specs.declared.Form.{Form}
 use Rattle.recording.specs.declared.Header.{Header}
 use Rattle.recording.specs.declared.Admission.{Admission}
@@ -29,7 +27,7 @@ use Rattle.tracker.specs.declared.Outcome.TheVariants as outcome
 use Rattle.replay.specs.Words.{change_lines, cycle_line, cycles_after}
 use Rattle.replay.specs.Events.{with_scan, with_used, with_tracker, after_admission, near_played, cycle_played, seam_played, event_played, stepped}
 use Rattle.replay.specs.declared.Session.{Session}
-use Rattle.replay_stream.specs.Stream.{Piece, Hand, Next, bytes_used, next, waits, told, midway, FarSamples, NearSamples, awaited, handed, seen, entered, entry_turn}
+use Rattle.replay_stream.specs.Stream.{Piece, Hand, Next, bytes_used, next, waits, told, midway, FarSamples, NearSamples, handed, entered, entry_turn}
 use Rattle.replay_stream.specs.declared.Stage.TheVariants.{Events, Midway, Closed}
 use Rattle.replay_stream.specs.declared.Input.TheVariants.{FarSide, NearSide}
 use Rattle.replay_stream.specs.declared.Answer.TheVariants.{Says, Silent}

@@ -1,4 +1,6 @@
 // One entry of the event input, from the bytes at hand. A near event is only entered here: its samples are played behind it (replay_near).
+#![tactic(auto)]
+
 pub mod supplies; // whether an event's samples are at hand
 
 ghost use Rattle.std.specs.Prelude.{◌≡◌, List, ℕ, ◌+◌, ◌-◌, ◌*◌, ◌^◌, ◌≤◌, ◌<◌, Float, length};
@@ -32,7 +34,7 @@ use tracker::Outcome;
 use units::Samples;
 
 // The samples of an event are at hand, still to come, or missing: the event passes the header's total, or its input has ended before them.
-#[derive(Drop)]
+#[derive(Clone, Copy)]
 pub enum Supply {
     AtHand,
     Awaited,

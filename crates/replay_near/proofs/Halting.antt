@@ -1,5 +1,5 @@
 -- The sample behind a run is refused or fills a frame, so that it logs a line: a run and one sample more are all of a cut.
-use Prim.Native.Nat.{ℕ, zero, suc, ◌+◌, ◌-◌, ◌^◌, ◌≤◌, ◌<◌}
+use Prim.Native.Nat.{ℕ, suc, ◌+◌, ◌-◌, ◌^◌, ◌≤◌, ◌<◌}
 use mathlib.Core.Path.{◌≡◌, refl, sym, ap, ◌∙◌, subst}
 use mathlib.Core.Bool.{Bool, true, false, true≢false}
 use mathlib.Core.List.{List, [], ◌∷◌}
@@ -25,7 +25,7 @@ use Rattle.replay.proofs.Passing.{later, passed_within}
 use Rattle.replay_stream.specs.Stream.{Cut, cut, no_lines, near_cut}
 use Rattle.replay_stream.specs.declared.Answer.TheVariants.{Silent}
 use Rattle.replay_stream.proofs.Running.{run_cut}
-use Rattle.replay_near.specs.Telling.{Told, tells, tells_of, CutTold, cut_tells}
+use Rattle.replay_near.specs.Telling.{Told, tells, tells_of, cut_tells}
 use Rattle.replay_near.specs.declared.Played.{Played}
 
 score_logs : (e : ℕ) (s : Session) (scan : Scan) (b : Buffers) (a : Scoring) → no_lines (after_score e s scan b a).lines ≡ false

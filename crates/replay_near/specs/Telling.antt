@@ -1,5 +1,5 @@
 -- What the calls give back, beside the definitions of replay_stream: a play or a cut as far as it is told.
-use Rattle.std.specs.Prelude.{ℕ, ◌*◌, ◌≤◌, min, ◌≡◌, Bool, List, ◌++◌, Float, length, drop}
+use Rattle.std.specs.Prelude.{ℕ, ◌*◌, ◌≤◌, min, Bool, List, ◌++◌, Float, length, drop}
 use Rattle.scan.specs.State.{Buffers}
 use Rattle.recording.specs.Samples.{bytes_of, samples_in}
 use Rattle.recording.specs.declared.Form.{Form}

@@ -1,4 +1,6 @@
 // Near samples up to the next line of the log.
+#![tactic(auto)]
+
 ghost use Rattle.std.specs.Prelude.{◌≡◌};
 ghost use Rattle.answers.specs.Pick.{pick};
 ghost use Rattle.recording.specs.Samples.{samples_in};
@@ -15,7 +17,7 @@ use replay_stream::Answer;
 use scan::{Scored, Scoring, Taking};
 
 // What one near sample left: Says its line, or Silent. `ends`: the rest of the event is dropped.
-#[derive(Drop)]
+#[derive(Clone, Copy)]
 pub struct Played {
     pub session: Session,
     pub answer: Answer,
@@ -23,7 +25,7 @@ pub struct Played {
 }
 
 // Near samples up to the next line: what they left, the index of the sample behind them, and how many are still to be played.
-#[derive(Drop)]
+#[derive(Clone, Copy)]
 pub struct NearCut {
     pub session: Session,
     pub answer: Answer,

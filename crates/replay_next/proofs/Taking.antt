@@ -8,7 +8,7 @@ use lib.Ieee.{Float}
 use lib.ListN.{length, take, drop, length-drop}
 use Rattle.scan.specs.State.{Buffers}
 use Rattle.recording.specs.declared.Header.{Header}
-use Rattle.replay_stream.specs.Stream.{Hand, bytes_used, beyond, Next, silent, on_top, next_line, to_go}
+use Rattle.replay_stream.specs.Stream.{Hand, bytes_used, Next, silent, on_top, next_line, to_go}
 use Rattle.replay_stream.specs.Giving.{hand_of, gives}
 use Rattle.replay_stream.specs.declared.Place.{Place}
 use Rattle.replay_stream.specs.declared.Bytes.{Bytes}

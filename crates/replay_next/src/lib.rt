@@ -1,4 +1,6 @@
 // The next line of a log, from the bytes at hand of the three inputs: a call that does no input or output. replay_stream defines what it answers.
+#![tactic(auto)]
+
 ghost use Rattle.std.specs.Prelude.{◌≡◌, ◌+◌, ◌^◌, ◌<◌, length};
 ghost use Rattle.scan_score.specs.Observing.{lent};
 ghost use Rattle.replay_near.specs.Telling.{Holds};

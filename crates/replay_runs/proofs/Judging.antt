@@ -1,10 +1,10 @@
 -- A state that was judged stays so: a push of far samples and a run of near samples break no rule but, perhaps, that of the running sum, and that one is tested.
-use Prim.Native.Nat.{ℕ, ◌+◌, ◌*◌, ◌/◌, ◌%◌, ◌≤◌, ◌<◌}
+use Prim.Native.Nat.{ℕ, ◌+◌, ◌/◌, ◌≤◌}
 use mathlib.Core.Path.{◌≡◌, refl, sym, ap, ◌∙◌}
 use mathlib.Core.List.{List, [], ◌∷◌}
-use mathlib.Core.Bool.{Bool, true, false}
+use mathlib.Core.Bool.{true, false}
 use native.Mathlib.Omega.{arith}
-use lib.Dec.{leb, eqb}
+use lib.Dec.{eqb}
 use lib.ListN.{length}
 use lib.Ieee.{Float}
 use lib.Ieee.Scale.{finite}
@@ -14,7 +14,7 @@ use Rattle.answers.specs.Numbers.{limit}
 use Rattle.answers.proofs.Refusals.{passed}
 use Rattle.folds.specs.Sums.{all_finite}
 use Rattle.scan.specs.Bins.{in_table, full_slack, envelope_len, near_len}
-use Rattle.scan.specs.State.{far_rule, near_rule, verdict_rule, keeps_rules, geometry_rule, finished, full, due, first_refusals}
+use Rattle.scan.specs.State.{far_rule, keeps_rules, geometry_rule, finished, full, due, first_refusals}
 use Rattle.scan.specs.Blocks.{Heard, hear, hear_all}
 use Rattle.scan.specs.Calls.{far_refusal}
 use Rattle.scan.specs.declared.Geometry.{Geometry}

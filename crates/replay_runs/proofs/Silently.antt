@@ -1,5 +1,5 @@
 -- One turn that says nothing, from where the loop stands; and a near event whose first samples were taken before: what is left of it answers the same.
-use Prim.Native.Nat.{ℕ, zero, suc, ◌+◌, ◌-◌, ◌*◌, ◌^◌, ◌≤◌, ◌<◌, min}
+use Prim.Native.Nat.{ℕ, ◌+◌, ◌-◌, ◌^◌, ◌≤◌, ◌<◌, min}
 use mathlib.Core.Path.{◌≡◌, refl, sym, ap, ◌∙◌, subst}
 use mathlib.Core.Bool.{Bool, true, false, not}
 use mathlib.Core.List.{List, []}
@@ -27,7 +27,7 @@ use Rattle.replay.specs.declared.Session.{Session}
 use Rattle.replay.proofs.Passing.{later, passed_within}
 use Rattle.replay_near.specs.Telling.{Holds, filled}
 use Rattle.replay_near.proofs.Decoding.{first_filled}
-use Rattle.replay_stream.specs.Stream.{Hand, Piece, short, bytes_used, beyond, Next, Cut, next, told, near_cut, midway, near_turn, entry_turn, turn_at, turn, silent, on_top, next_line}
+use Rattle.replay_stream.specs.Stream.{Hand, bytes_used, beyond, Next, Cut, next, told, near_cut, midway, near_turn, entry_turn, turn, silent, on_top, next_line}
 use Rattle.replay_stream.specs.declared.Stage.TheVariants.{Events, Midway}
 use Rattle.replay_stream.specs.declared.Answer.TheVariants.{Silent}
 use Rattle.replay_stream.specs.declared.Place.{Place}

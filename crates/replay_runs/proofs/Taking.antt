@@ -6,7 +6,6 @@ use mathlib.Core.List.{List}
 use native.Mathlib.Omega.{arith}
 use lib.Ieee.{Float}
 use lib.ListN.{length, take, drop, length-drop}
-use lib.Seq.{take-length}
 use Rattle.scan.specs.State.{Buffers}
 use Rattle.recording.specs.declared.Header.{Header}
 use Rattle.replay_stream.specs.Stream.{Hand, bytes_used, beyond, Next, turn, silent, on_top, next_line}

@@ -1,7 +1,7 @@
 -- A turn uses no more bytes than are at hand, wherever the stream stands.
-use Prim.Native.Nat.{ℕ, ◌-◌, ◌*◌, ◌≤◌, min}
-use mathlib.Core.Path.{◌≡◌, refl, sym, ap, ◌∙◌}
-use mathlib.Core.Bool.{true, false, true≢false}
+use Prim.Native.Nat.{ℕ, ◌-◌, ◌≤◌, min}
+use mathlib.Core.Path.{◌≡◌, refl}
+use mathlib.Core.Bool.{true, true≢false}
 use native.Mathlib.Omega.{arith}
 use lib.Dec.{ltb}
 use lib.ListN.{length}
@@ -16,7 +16,7 @@ use Rattle.recording.specs.declared.Admission.TheVariants as admission
 use Rattle.recording.specs.declared.Event.{Event}
 use Rattle.recording.specs.declared.Entry.{Entry}
 use Rattle.recording.specs.declared.Entry.TheVariants as entry
-use Rattle.replay.specs.Events.{Play, after_admission, stepped}
+use Rattle.replay.specs.Events.{after_admission, stepped}
 use Rattle.replay.specs.declared.Session.{Session}
 use Rattle.replay_stream.specs.Stream.{Hand, short, Next, near_cut, near_turn, Need, NoSamples, FarSamples, NearSamples, need_of, awaits, handed, used_for, seen, entered, entry_turn, turn_at, turn}
 use Rattle.replay_stream.specs.declared.Stage.{Stage}
@@ -24,7 +24,7 @@ use Rattle.replay_stream.specs.declared.Stage.TheVariants.{Opening, Events, Midw
 use Rattle.replay_stream.specs.declared.Place.{Place}
 use Rattle.recording.proofs.Forms.{bytes_mono}
 use Rattle.replay_stream.specs.declared.Bytes.{Bytes}
-use Rattle.replay_stream.proofs.Entering.{Taken, taken}
+use Rattle.replay_stream.proofs.Entering.{taken}
 use Rattle.replay_stream.proofs.Turning.{good_whole}
 use Rattle.replay_runs.specs.Silences.{Inside}
 

@@ -1,5 +1,7 @@
 // Events that say nothing, in one loop: far events, and near events whose samples fill no frame. The scan is judged once before them; the loop goes over its far side and its near side alone,
 // and what else a session has stands still. Behind them comes one turn.
+#![tactic(auto)]
+
 pub mod start; // where the loop begins, and where it ends
 pub mod far; // a far event
 pub mod near; // a near event
@@ -19,7 +21,7 @@ use replay_stream::{Bytes, Ended, Place, Turned};
 use scan::{Far, Near};
 
 // The parts of a place that such events change, the bytes that they used, and whether the next event may follow.
-#[derive(Drop)]
+#[derive(Clone, Copy)]
 pub struct Silence {
     pub number: u32,
     pub index: u64,

@@ -34,18 +34,12 @@ size r = length r.events + length r.far + length r.near
 
 -- what was used of an input is gone
 smaller : (i : Input) (u : Bytes) (r : Rest) (hand : Hand) → FairHand r hand → Fits u hand → 0 < used_of i u → size (rest_after u r) < size r
-smaller i u r hand fair fits =
-    let e = length-drop u.events r.events in
-    let f = length-drop u.far r.far in
-    let n = length-drop u.near r.near in
-    let e₁ = hand_length r.events hand.events fair.events in
-    let f₁ = hand_length r.far hand.far fair.far in
-    let n₁ = hand_length r.near hand.near fair.near in
-    elim i [
-      | Entries ↦ λ some. omega (arith, some, fits.events)
-      | FarSide ↦ λ some. omega (arith, some, fits.far)
-      | NearSide ↦ λ some. omega (arith, some, fits.near)
-    ]
+smaller Entries u r hand fair fits some =
+    omega (arith, fits.events, hand_length r.events hand.events fair.events, length-drop u.events r.events, length-drop u.far r.far, length-drop u.near r.near)
+smaller FarSide u r hand fair fits some =
+    omega (arith, fits.far, hand_length r.far hand.far fair.far, length-drop u.events r.events, length-drop u.far r.far, length-drop u.near r.near)
+smaller NearSide u r hand fair fits some =
+    omega (arith, fits.near, hand_length r.near hand.near fair.near, length-drop u.events r.events, length-drop u.far r.far, length-drop u.near r.near)
 
 no_larger : (u : Bytes) (r : Rest) → size (rest_after u r) ≤ size r
 no_larger u r = omega (arith, length-drop u.events r.events, length-drop u.far r.far, length-drop u.near r.near)

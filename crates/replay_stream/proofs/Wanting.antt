@@ -20,7 +20,7 @@ use Rattle.recording.specs.declared.Entry.{Entry}
 use Rattle.recording.proofs.Forms.{bytes_mono, bytes_most}
 use Rattle.replay.specs.Events.{stepped}
 use Rattle.replay.specs.declared.Session.{Session}
-use Rattle.replay_stream.specs.Stream.{Stage, Opening, Events, Midway, Closed, Place, Piece, Hand, Bytes, bytes_used, past, beyond, short, Input, Entries, FarSide, NearSide, Says, Wants, Over, Next, waits, told, near_turn, near_cut, Need, NoSamples, FarSamples, NearSamples, Few, need_of, awaits, side_of, handed, seen, entry_turn, turn_at, turn, silent, turns, next_line}
+use Rattle.replay_stream.specs.Stream.{Stage, Opening, Events, Midway, Closed, Place, Piece, Hand, Bytes, past, beyond, short, Input, Entries, FarSide, NearSide, Says, Wants, Over, Next, waits, told, near_turn, near_cut, Need, NoSamples, FarSamples, NearSamples, Few, need_of, awaits, side_of, handed, seen, entry_turn, turn_at, turn, silent, turns, next_line}
 use Rattle.replay_stream.specs.Hosts.{Rest, rest_after, Front, FairHand, plenty, piece_of, used_of}
 use Rattle.replay_stream.proofs.Fronts.{all_there}
 use Rattle.replay_stream.proofs.Few.{entry_few}

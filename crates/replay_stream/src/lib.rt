@@ -1,10 +1,12 @@
 // A recording replayed from inputs that arrive in pieces: the types of a call that does no input or output. specs/Stream.antt says what the call answers, specs/Hosts.antt
 // what a host does with it, and the theorem `streamed_log` (proofs/Whole.antt) that the host then gets the log.
+#![tactic(auto)]
+
 use log_lines::Line;
 use replay::Session;
 
 // Midway: near event number `event` has so many samples still to be played, the next one with this index.
-#[derive(Drop)]
+#[derive(Clone, Copy)]
 pub enum Stage {
     Opening,
     Events,
@@ -13,7 +15,7 @@ pub enum Stage {
 }
 
 // `number` is that of the next event to be read.
-#[derive(Drop)]
+#[derive(Clone, Copy)]
 pub struct Place {
     pub number: u32,
     pub stage: Stage,
@@ -21,14 +23,14 @@ pub struct Place {
 }
 
 // How many bytes of each input are used.
-#[derive(Drop)]
+#[derive(Clone, Copy)]
 pub struct Bytes {
     pub events: usize,
     pub far: usize,
     pub near: usize,
 }
 
-#[derive(Drop)]
+#[derive(Clone, Copy)]
 pub enum Input {
     Entries,
     FarSide,
@@ -36,7 +38,7 @@ pub enum Input {
 }
 
 // Silent: an event was played that logs nothing. No call for the next line answers this.
-#[derive(Drop)]
+#[derive(Clone, Copy)]
 pub enum Answer {
     Says(Line),
     Silent,
@@ -45,7 +47,7 @@ pub enum Answer {
 }
 
 // No byte comes behind those at hand.
-#[derive(Drop)]
+#[derive(Clone, Copy)]
 pub struct Ended {
     pub events: bool,
     pub far: bool,
@@ -53,7 +55,7 @@ pub struct Ended {
 }
 
 // Where the stream stands, what is answered, and how many bytes of each input were used.
-#[derive(Drop)]
+#[derive(Clone, Copy)]
 pub struct Turned {
     pub place: Place,
     pub answer: Answer,

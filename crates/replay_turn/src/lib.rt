@@ -1,4 +1,6 @@
 // One turn: an event, the rest of a near event up to its next line, or the log's first or last line.
+#![tactic(auto)]
+
 pub mod near; // the samples that a near event has left
 
 ghost use Rattle.std.specs.Prelude.{◌≡◌, min, ltb, length};

@@ -1,5 +1,4 @@
 -- Every public call: its contract admits one answer with its ring, and one buffer.
-use Prim.Native.Nat.{ℕ}
 use mathlib.Core.Path.{◌≡◌}
 use contract.Lifetimes.{Lfts}
 use denote.Triple.Clauses.{AtExit}

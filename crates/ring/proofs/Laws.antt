@@ -17,7 +17,7 @@ use Rattle.answers.specs.Answers.{counted}
 use Rattle.ring.specs.declared.Ring.{Ring}
 use Rattle.ring.specs.declared.Changed.{Changed}
 use Rattle.ring.specs.declared.Kept.TheVariants.{NotKept, At}
-use Rattle.ring.specs.Ring.{changed, empty, made, ring_refusal, push_refusal, stored, pushed, pushed_buf, oldest, is_kept, gotten, next_abs, dropped_of, cleared}
+use Rattle.ring.specs.Ring.{changed, empty, made, ring_refusal, push_refusal, stored, pushed_buf, oldest, is_kept, gotten, next_abs, dropped_of, cleared}
 use Rattle.ring.specs.History.{Lent, capacity, begin, push, pushes, taken, accepted, missing, missing_below, Remembers}
 use Rattle.ring.proofs.Accepted.{ring_accepted, push_accepted}
 use Rattle.ring.proofs.Slots.{Stand, stored_length, stand_all}

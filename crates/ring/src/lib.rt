@@ -1,26 +1,28 @@
 // The far-end reference ring. Its samples are addressed by an absolute index that never wraps, in a buffer that the host lends with each call.
 // The buffer's length is the capacity. Samples are bit patterns, so that any bits are kept as they are.
 // No call has a `requires`: a bad call is refused by number and hands back the ring that it was given.
+#![tactic(auto)]
+
 ghost use Rattle.std.specs.Prelude.{◌≡◌, ◌<◌, ◌≤◌, ◌+◌, ◌%◌, length, set};
 ghost use Rattle.answers.specs.Numbers.{limit};
 ghost use Rattle.ring.specs.Ring.{changed, made, ring_refusal, push_refusal, stored, pushed, pushed_buf, gotten, next_abs, capacity_of, dropped_of, cleared};
 
 use answers::{Change, Count};
 
-#[derive(Drop)]
+#[derive(Clone, Copy)]
 pub struct Ring {
     // The number of samples ever pushed, which is also the absolute index of the next one: `next_abs` of the Rust.
     pub accepted: u64,
 }
 
-#[derive(Drop)]
+#[derive(Clone, Copy)]
 pub struct Changed {
     pub ring: Ring,
     pub answer: Change,
 }
 
 // Where in the lent buffer a sample is.
-#[derive(Drop)]
+#[derive(Clone, Copy)]
 pub enum Kept {
     Refused(u8),
     NotKept,

@@ -8,7 +8,7 @@ use Rattle.ring.specs.Ring.{made, pushed, pushed_buf, gotten, next_abs, capacity
 use Rattle.ring.specs.declared.Changed.{Changed}
 use Rattle.ring.specs.Told.{kept_told}
 use Rattle.ring_words.specs.Layout.{ring_words, loaded, changed_words}
-use Rattle.face.specs.Face.{Left, left, setting_first, judged, unless_refused}
+use Rattle.face.specs.Face.{Left, left, judged, unless_refused}
 
 abbrev pub judged_ring : List ℕ → Bool → ℕ
 judged_ring ws valuesFit = judged (fits ring_words ws) true valuesFit

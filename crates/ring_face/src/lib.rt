@@ -1,4 +1,6 @@
 // The ring's calls. Its state is one word: how many samples were accepted. The buffer is lent with each call, and its length is the capacity.
+#![tactic(auto)]
+
 ghost use Rattle.std.specs.Prelude.{◌≡◌};
 ghost use Rattle.ring_words.specs.Layout.{ring_words};
 ghost use Rattle.ring_face.specs.Calls.{judged_ring, new_called, push_called, clear_called, get_called, next_abs_called, capacity_called, dropped_called};

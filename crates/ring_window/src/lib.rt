@@ -1,5 +1,7 @@
 // A window of the far reference ring in one call, as patterns or as floats, and a push of floats. Ring and buffer are those of crate ring.
 // No call has a `requires`: a bad call is refused by the ring's own number, and writes nothing. Each contract is one equation with a definition of specs/Window for the answer and one for what is lent.
+#![tactic(auto)]
+
 mod cutting; // where a window meets the ring
 mod patterns; // a window is written as patterns
 mod values; // a window is written as floats
@@ -12,20 +14,20 @@ use answers::{Change, Count};
 use ring::{Changed, Ring};
 
 // How many samples of a window are missing: before its first kept one, and behind its last pushed one.
-#[derive(Drop)]
+#[derive(Clone, Copy)]
 pub struct Missing {
     pub head: u64,
     pub tail: u64,
 }
 
-#[derive(Drop)]
+#[derive(Clone, Copy)]
 pub enum Reading {
     Refused(u8),
     Read(Missing),
 }
 
 // How a window is cut: missing places at its head and its tail; between them places of the buffer from a slot on, and then from its start on.
-#[derive(Drop)]
+#[derive(Clone, Copy)]
 pub struct Cut {
     pub head: usize,
     pub slot: usize,

@@ -1,4 +1,6 @@
 // A window of the ring in one call, as patterns or as floats, and a push of floats, on the word and the buffer that a host lends. The ring's other calls are in crate ring_face.
+#![tactic(auto)]
+
 ghost use Rattle.std.specs.Prelude.{◌≡◌, length};
 ghost use Rattle.words.specs.Answers.{number, given};
 ghost use Rattle.ring_window.specs.Told.{reading_told};

@@ -1,4 +1,6 @@
 // Loads a ring's state from the word that a host lends, stores it there, and turns its calls' answers into numbers and values.
+#![tactic(auto)]
+
 ghost use Rattle.std.specs.Prelude.{◌≡◌, length};
 ghost use Rattle.ring_words.specs.Layout.{ring_words, loaded, settled};
 

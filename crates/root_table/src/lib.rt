@@ -2,6 +2,8 @@
 //
 // The compiler writes a constant array onto the stack wherever it is used. So the table is made once, by `first_guesses`, and lent to every
 // root that is taken with it.
+#![tactic(auto)]
+
 ghost use Rattle.std.specs.Prelude.{◌≡◌, ◌+◌, ◌*◌, ◌/◌, ◌^◌, ◌<◌, ◌≤◌};
 ghost use Rattle.root_table.specs.Guesses.{Table, Serves, Near, IsRoot};
 

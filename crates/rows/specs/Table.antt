@@ -4,7 +4,7 @@ use Rattle.std.specs.Float.{binary64}
 use Rattle.std.specs.Float.Ieee.{of_bits}
 use Rattle.answers.specs.Pick.{pick, either}
 use Rattle.units.specs.Units.{bins, samples}
-use Rattle.floats.specs.Functions.{zero64, narrow_bits, root_bits, root}
+use Rattle.floats.specs.Functions.{zero64, narrow_bits, root_bits}
 use Rattle.scan.specs.Bins.{geometry_of}
 use Rattle.scan.specs.Scoring.{most_products, at_ceiling}
 use Rattle.tracker.specs.declared.Delay.TheVariants.{Nothing}

@@ -21,7 +21,7 @@ use Rattle.scan.specs.Blocks.{Seen, gather, dropped, hole, held_at, summed, leve
 use Rattle.scan.specs.Scoring.{uncovered, window_of, bin_at, quiet, flat, scores_of}
 use Rattle.scan.specs.Calls.{Observation, FarPush, NearPush, Clearing, Restart, all_lengths, frame_of, window_in, is_uncovered, is_ahead, with_near, with_near_verdict, far_refusal, pushed_far, near_refusal, pushed_near, score_refusal, counted_frame, judged, scored_frame, observed, taken_by, clearing, clear_refusal, rearmed, discarded, reset_refusal, was_reset, report_refusal, bin_samples, ceiling_samples, region_of, beyond_ceiling, is_finished, is_exhausted, frames_of, correlation_of}
 use Rattle.scan.specs.Steps
-use Rattle.scan.specs.Steps.{Report, bin_samples, ceiling_samples, region, beyond_ceiling, frames, correlation, exhausted, Deed, near, score, rearm, discard, reset, ask, Call, far, deed, Response, refusal_of, takes, Step, step, with_levels, with_lag_sums, reported, called}
+use Rattle.scan.specs.Steps.{Report, bin_samples_report, ceiling_samples_report, region, beyond_ceiling_report, frames, correlation, exhausted, Deed, near, score, rearm, discard, reset, ask, Call, far, deed, Response, refusal_of, takes, Step, step, with_levels, with_lag_sums, reported, called}
 use Rattle.scan.specs.Streams.{AllF32, Item, own, foreign, after, answers, Accepted, Lengths, lengths_of}
 use Rattle.scan.specs.FourFacts.{is_accepted}
 use Rattle.scan.specs.Compact.{part_after}
@@ -264,10 +264,10 @@ module _ (slack : ℕ) (keeps : ℕ → Type 0) (w : World) (sum : Float) (b : B
   -- ---- reports
 
   report_same : (r : Report) → reported v.scan r ≡ reported w.scan r
-  report_same bin_samples = (unfold bin_samples in rw report_refusal_lem)
-  report_same ceiling_samples = (unfold ceiling_samples in rw report_refusal_lem)
+  report_same bin_samples_report = (unfold bin_samples in rw report_refusal_lem)
+  report_same ceiling_samples_report = (unfold ceiling_samples in rw report_refusal_lem)
   report_same region = (unfold region_of in rw report_refusal_lem)
-  report_same beyond_ceiling = (unfold beyond_ceiling in rw report_refusal_lem)
+  report_same beyond_ceiling_report = (unfold beyond_ceiling in rw report_refusal_lem)
   report_same frames = (unfold frames_of in rw report_refusal_lem)
   report_same correlation = (unfold correlation_of in rw report_refusal_lem)
   report_same Steps.finished = (unfold is_finished in rw report_refusal_lem)

@@ -1,10 +1,9 @@
 -- The beginning of a stream: a making or a reset that is not refused leaves a new scan, which is sound.
 use Prim.Native.Nat.{ℕ}
 use mathlib.Core.Path.{◌≡◌, refl, ap, ap₂, ◌∙◌}
-use mathlib.Core.Bool.{true, not}
+use mathlib.Core.Bool.{true}
 use native.Mathlib.Omega.{arith}
 use lib.Dec.{lit<, lit≤}
-use lib.ListN.{length}
 use Rattle.answers.specs.Refusals.{none}
 use Rattle.answers.proofs.Refusals.{passed}
 use Rattle.floats.proofs.Levels.{AtMost, zero_at_most}
@@ -12,7 +11,7 @@ use Rattle.folds.specs.Sums.{zeros}
 use Rattle.scan.specs.Bins.{in_table, geometry_of, envelope_len, lags}
 use Rattle.scan.specs.State.{Buffers, World, new_far, new_near, new_verdict}
 use Rattle.scan.specs.Calls.{Restart, making_refusal, made, reset_refusal, was_reset}
-use Rattle.scan.specs.Steps.{near, reset, far, deed, refusal_of, changes, with_envelope, with_lag_sums, called, making}
+use Rattle.scan.specs.Steps.{reset, deed, refusal_of, changes, with_envelope, with_lag_sums, called, making}
 use Rattle.scan.specs.Streams.{Accepted, Began, by_making, by_reset}
 use Rattle.scan.specs.declared.Geometry.{Geometry}
 use Rattle.scan.proofs.Laws.{if_refused_case, both_and, all_zeros_lem, length_zeros}

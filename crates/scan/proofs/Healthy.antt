@@ -11,10 +11,10 @@ use Rattle.answers.specs.Refusals.{none, wrong_length, not_finite, too_large, fr
 use Rattle.answers.specs.Answers.{counted, flagged}
 use Rattle.floats.proofs.Levels.{AtMost, at_most_finite}
 use Rattle.scan.specs.Bins.{lags}
-use Rattle.scan.specs.State.{World, due, finished, first_refusals}
+use Rattle.scan.specs.State.{World, due, first_refusals}
 use Rattle.scan.specs.Calls.{is_uncovered, is_ahead, window_in, readable, far_refusal, near_refusal, score_refusal, clear_refusal, reset_refusal, report_refusal, bin_samples, ceiling_samples, region_of, beyond_ceiling, is_finished, is_exhausted, frames_of, correlation_of}
 use Rattle.scan.specs.Steps
-use Rattle.scan.specs.Steps.{Report, bin_samples, ceiling_samples, region, beyond_ceiling, frames, correlation, exhausted, near, score, rearm, discard, reset, ask, Call, far, deed, refusal_of, reported, called}
+use Rattle.scan.specs.Steps.{Report, bin_samples_report, ceiling_samples_report, region, beyond_ceiling_report, frames, correlation, exhausted, near, score, rearm, discard, reset, ask, Call, far, deed, refusal_of, reported, called}
 use Rattle.scan.specs.Streams.{Item, after, Accepted, Fair, Began}
 use Rattle.scan.specs.Health.{Healthy, StaysHealthy, NeverBroken, NeverUnreadable, RearmsAlways}
 use Rattle.scan.proofs.Laws.{both_and, either_or, all_finite_lem}
@@ -62,10 +62,10 @@ module _ (slack : ℕ) (w : World) (s : Sound slack w) where
 
   -- a report is lent no buffer, so that nothing is left to refuse
   report_fine : (r : Report) → Fine (refusal_of (reported w.scan r))
-  report_fine bin_samples = (unfold bin_samples pick in rw unrefused none_fine)
-  report_fine ceiling_samples = (unfold ceiling_samples pick in rw unrefused none_fine)
+  report_fine bin_samples_report = (unfold bin_samples pick in rw unrefused none_fine)
+  report_fine ceiling_samples_report = (unfold ceiling_samples pick in rw unrefused none_fine)
   report_fine region = (unfold region_of pick in rw unrefused none_fine)
-  report_fine beyond_ceiling = (unfold beyond_ceiling flagged pick in rw unrefused none_fine)
+  report_fine beyond_ceiling_report = (unfold beyond_ceiling flagged pick in rw unrefused none_fine)
   report_fine frames = (unfold frames_of counted pick in rw unrefused none_fine)
   report_fine correlation = (unfold correlation_of pick in rw unrefused none_fine)
   report_fine Steps.finished = (unfold is_finished flagged pick in rw unrefused none_fine)

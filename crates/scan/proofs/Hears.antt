@@ -128,7 +128,7 @@ module _ (g : Geometry) (keeps : ℕ → Type 0) where
 -- any value in the place of samples that are numbered below the block's first
 pub filled_alike : (g : Geometry) (block : ℕ) → 0 < g.decimation → (z : Float) (xs : List Float) (m n : ℕ) → m ≤ block * g.decimation - n → SamplesAlike g (λ j. block ≤ j) n xs (filled z m xs)
 filled_alike g block p z [] m n l = rw (filled_nil z m) tt
-filled_alike g block p z (x ∷ xs) zero n l = rw (filled_none z (x ∷ xs)) (samples_same g _ n (x ∷ xs))
+filled_alike g block p z (x ∷ xs) zero n l = rw (filled_none z (x ∷ xs)) (samples_same g (λ j. block ≤ j) n (x ∷ xs))
 filled_alike g block p z (x ∷ xs) (suc m) n l =
     rw (filled_one z m x xs) (λ b. absurd (omega (arith, (le-div_iff_mul-le p).0 b)), filled_alike g block p z xs m (n + 1) (omega arith))
 

@@ -13,7 +13,7 @@ use lib.Seq.{get_or-set_same, get_or-set_other}
 use lib.Ieee.{Float, nan}
 use lib.Ieee.Scale.{finite}
 use borrow.Author.Tests.{leb-true, eqb-true, eqb-false, eq-eqb, ne_eqb, lt-ltb, le-leb, not-true}
-use Rattle.answers.specs.Pick.{pick, both, either, pick_true, pick_false, pick_all, pick_case}
+use Rattle.answers.specs.Pick.{pick, either, pick_true, pick_false, pick_all, pick_case}
 use Rattle.answers.specs.Refusals.{require, before, none, not_finite, too_large, frame_waits}
 use Rattle.answers.specs.Numbers.{limit}
 use Rattle.answers.proofs.Refusals.{passed, passed_both}
@@ -24,8 +24,8 @@ use Rattle.scan.specs.State.{World, emptied, finished, full, idle, taken, due, g
 use Rattle.scan.specs.Blocks.{Seen, gather, dropped, hole, held_at, first_bin, summed, level_of}
 use Rattle.scan.specs.Scoring.{quiet, flat}
 use Rattle.scan.specs.Calls.{Observation, FarPush, NearPush, Clearing, Restart, frame_of, window_in, is_uncovered, is_ahead, consumed, with_near, with_near_verdict, untaken, taken_by, far_refusal, pushed_far, near_refusal, pushed_near, score_refusal, counted_frame, judged, scored_frame, observed, clearing, clear_refusal, rearmed, discarded, reset_refusal, was_reset}
-use Rattle.scan.specs.Steps.{Deed, near, score, rearm, discard, reset, ask, Call, far, deed, Response, called}
-use Rattle.scan.specs.Streams.{Item, own, foreign, after, answers, Began}
+use Rattle.scan.specs.Steps.{near, score, rearm, discard, reset, ask, Call, far, deed, Response, called}
+use Rattle.scan.specs.Streams.{Item, own, foreign, after, answers}
 use Rattle.scan.specs.Holes.{Sample, with_taken, noted_call, samples_taken, indices_of, up_from, sum_of_latest, FrameInPlace, InPlace, BinInPlace, BinsInPlace, NearOnly, HoleKeeps, HoleBegins, BeginsFrame, refusal_without, pushed_without, called_without, after_without, answers_without, NoHoleCall, WithoutHoles}
 use Rattle.scan.specs.declared.Geometry.{Geometry}
 use Rattle.scan.specs.declared.Near.{Near}

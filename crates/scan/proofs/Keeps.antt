@@ -13,7 +13,6 @@ use lib.Ieee.{Float, binary32, fits}
 use lib.Ieee.Scale.{finite}
 use borrow.Author.Tests.{ltb-true, eqb-true, eqb-false, eq-eqb}
 use Rattle.answers.specs.Pick.{pick_case}
-use Rattle.answers.specs.Refusals.{none}
 use Rattle.answers.specs.Numbers.{limit}
 use Rattle.floats.specs.Functions.{zero64}
 use Rattle.floats.proofs.Levels.{AtMost, zero_at_most}
@@ -23,8 +22,8 @@ use Rattle.scan.specs.State.{Buffers, World, emptied, finished, full, idle, take
 use Rattle.scan.specs.Blocks.{Seen, gather, dropped, hole, held_at, first_bin, summed, level_of}
 use Rattle.scan.specs.Scoring.{bin_at, window_of, quiet, flat, Ruling, ruling, scores_of, products, add_scores}
 use Rattle.scan.specs.Calls.{Observation, FarPush, NearPush, Clearing, frame_of, window_in, is_uncovered, is_ahead, consumed, with_near_verdict, counted_by, clearing, far_refusal, pushed_far, near_refusal, pushed_near, score_refusal, counted_frame, judged, scored_frame, observed, clear_refusal, rearmed, discarded}
-use Rattle.scan.specs.Steps.{Deed, near, score, rearm, discard, reset, ask, Call, far, deed, scores, called}
-use Rattle.scan.specs.Streams.{AllF32, FairDeed, FairCall, Accepted}
+use Rattle.scan.specs.Steps.{Deed, near, score, rearm, discard, reset, ask, Call, far, deed, called}
+use Rattle.scan.specs.Streams.{AllF32, FairDeed, FairCall}
 use Rattle.scan.specs.declared.Geometry.{Geometry}
 use Rattle.scan.specs.declared.Near.{Near}
 use Rattle.scan.specs.declared.Verdict.{Verdict}

@@ -141,10 +141,10 @@ module _ (slack block : ℕ) where
   unfolding answers clean_answers cleaned
   answers_alike known [] w v h b s s' f l e = refl
   answers_alike known (own c ∷ items) w v h b s s' f l e =
-      let o = called_alike slack (From block) w v c (as_call (clean_call (block * w.scan.geometry.decimation) w c)) h s s' (clean_alike slack block w s b c f.0) in
+      subst (λ (k : ℕ). answers slack w (own c ∷ items) ≡ clean_answers slack v (cleaned slack k w (own c ∷ items))) (sym e)
+      (let o = called_alike slack (From block) w v c (as_call (clean_call (block * w.scan.geometry.decimation) w c)) h s s' (clean_alike slack block w s b c f.0) in
       let fair = clean_fair slack block w s b v c f.0 o.response in
-      rw e
-      (ap₂ {A = Response} {B = List Response} (λ (a : Response) (rest : List Response). a ∷ rest) (sym o.response)
+      ap₂ {A = Response} {B = List Response} (λ (a : Response) (rest : List Response). a ∷ rest) (sym o.response)
       (answers_alike (block * w.scan.geometry.decimation) items (called slack w c).world (called slack v (as_call (clean_call (block * w.scan.geometry.decimation) w c))).world o.world (called_late slack block w s b c f.0 l.0) (called_sound slack w s c f.0) (called_sound slack v s' _ fair) f.1 l.1
       (ap (λ (g : Geometry). block * g.decimation) (sym (call_passes slack w s c f.0).geometry))))
   answers_alike known (foreign u c ∷ items) w v h b s s' f l e = answers_alike known items w v h b s s' f.1 l e

@@ -2,17 +2,16 @@
 use Prim.Native.Nat.{min, suc, zero, ℕ}
 use Rattle.answers.specs.Pick.{both, pick}
 use Rattle.scan.proofs.Laws.{all_finite_lem, all_zeros_lem, both_left, finite_append, length_table, length_zeros, table_front}
-use Rattle.scan.specs.Calls.{judged}
 use Rattle.scan.specs.Streams.{AllF32, unheard}
 use Rattle.floats.specs.Functions.{zero64}
-use Rattle.folds.specs.Sums.{all_finite, at, table, zeros}
+use Rattle.folds.specs.Sums.{all_finite, table, zeros}
 use lib.Dec.{T}
 use lib.Ieee.{Float, binary32, fits, nan}
 use lib.Ieee.Fits.{nan-fits}
 use lib.Ieee.Scale.{finite}
 use lib.ListN.{drop, length, length-append, length-drop, length-take, take, take-append-drop}
 use lib.Seq.{drop-nil}
-use mathlib.Core.Bool.{Bool, false, not, true}
+use mathlib.Core.Bool.{Bool, false, true}
 use mathlib.Core.List.{List, [], ◌++◌, ◌∷◌}
 use mathlib.Core.Path.{◌∙◌, ◌≡◌, ap, refl, sym}
 use native.Mathlib.Omega.{arith}

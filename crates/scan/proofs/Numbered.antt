@@ -9,8 +9,7 @@ use Rattle.scan.specs.State.{World, finished}
 use Rattle.scan.specs.Blocks.{dropped, held_at}
 use Rattle.scan.specs.Scoring.{quiet, flat}
 use Rattle.scan.specs.Calls.{NearPush, Observation, is_uncovered, is_ahead, far_refusal, pushed_far, near_refusal, pushed_near, score_refusal, counted_frame, judged, scored_frame, observed, clear_refusal, rearmed, discarded, reset_refusal, was_reset}
-use Rattle.scan.specs.Steps
-use Rattle.scan.specs.Steps.{near, refusal_of, changes, takes, scores}
+use Rattle.scan.specs.Steps.{refusal_of, changes, takes, scores}
 use Rattle.scan.specs.declared.Taking.{Taking}
 use Rattle.scan.proofs.Laws.{if_refused_case}
 

@@ -15,8 +15,6 @@ use Rattle.floats.proofs.Levels.{AtMost, at_most_finite}
 use Rattle.scan.specs.Bins.{envelope_len, lags}
 use Rattle.scan.specs.State.{World, finished, full, idle, taken, due, far_rule, near_rule, verdict_rule, keeps_rules, first_refusals}
 use Rattle.scan.specs.Blocks.{Heard, Seen}
-use Rattle.scan.specs.Steps.{near, far, scores}
-use Rattle.scan.specs.Streams.{Accepted}
 use Rattle.scan.specs.declared.Geometry.{Geometry}
 use Rattle.scan.specs.declared.Near.{Near}
 use Rattle.scan.specs.declared.Verdict.{Verdict}

@@ -11,7 +11,7 @@ use Rattle.answers.specs.declared.Flag.{Flag}
 use Rattle.answers.specs.Answers.{counted, flagged}
 use Rattle.answers.specs.Numbers.{limit}
 use Rattle.units.specs.Units.{bins, in_samples}
-use Rattle.floats.specs.Functions.{zero64, narrow}
+use Rattle.floats.specs.Functions.{narrow}
 use Rattle.folds.specs.Sums.{zeros, all_finite, prefix_sums, prefix_squares}
 use Rattle.scan.specs.Bins.{in_table, geometry_of, envelope_len, near_len, window_len, prefix_len, lags}
 use Rattle.scan.specs.State.{Buffers, World, new_far, new_near, new_verdict, new_scan, emptied, finished, full, due, first_refusals}
@@ -30,7 +30,6 @@ use Rattle.scan.specs.declared.Changed.{Changed}
 use Rattle.scan.specs.declared.Taking.{Taking}
 use Rattle.scan.specs.declared.Taking.TheVariants as taking
 use Rattle.scan.specs.declared.Took.{Took}
-use Rattle.scan.specs.declared.Scoring.{Scoring}
 use Rattle.scan.specs.declared.Scoring.TheVariants as scoring
 use Rattle.scan.specs.declared.Scored.{Scored}
 use Rattle.scan.specs.declared.RegionReport.{RegionReport}

@@ -7,7 +7,7 @@ use Rattle.answers.specs.Numbers.{limit}
 use Rattle.floats.specs.Functions.{zero64}
 use Rattle.folds.specs.Sums.{at}
 use Rattle.scan.specs.Bins.{near_len}
-use Rattle.scan.specs.State.{Buffers, World, emptied, finished, full, taken, due, first_refusals}
+use Rattle.scan.specs.State.{World, emptied, finished, full, taken, due, first_refusals}
 use Rattle.scan.specs.Blocks.{Seen, gather, dropped, hole, summed, level_of}
 use Rattle.scan.specs.Calls.{NearPush, untaken, taken_by, with_near, pushed_near}
 use Rattle.scan.specs.Steps.{Deed, near, score, rearm, discard, reset, ask, Call, far, deed, Response, takes, Step, step, with_levels, called}

@@ -9,13 +9,11 @@ use Rattle.units.specs.declared.Bins.{Bins}
 use Rattle.floats.specs.Functions.{zero64, whole, narrow, root}
 use Rattle.folds.specs.Sums.{upto, table, zeros, at, square, sum_of, prefix_sums, prefix_squares}
 use Rattle.folds.specs.Search.{search_down}
-use Rattle.folds.specs.declared.Peak.{Peak}
 use Rattle.scan.specs.Bins.{coarse_min_frames, window_len, envelope_len, lags}
 use Rattle.scan.specs.State.{present}
 use Rattle.scan.specs.declared.Geometry.{Geometry}
-use Rattle.scan.specs.declared.Region.{Region}
 use Rattle.scan.specs.declared.Found.{Found}
-use Rattle.scan.specs.declared.Found.TheVariants.{Nothing, At}
+use Rattle.scan.specs.declared.Found.TheVariants.{At}
 use Rattle.scan.specs.declared.Verdict.{Verdict}
 use Rattle.scan.specs.declared.Frame.{Frame}
 use Rattle.scan.specs.declared.Frame.TheVariants as frame

@@ -24,7 +24,7 @@ use Rattle.scan.specs.declared.SamplesReport.TheVariants as samples
 -- ---- the calls. Far pushes stand apart, since they alone bring far samples.
 
 pub data Report : Type 0 where
-  bin_samples ceiling_samples region beyond_ceiling frames correlation finished exhausted : Report
+  bin_samples_report ceiling_samples_report region beyond_ceiling_report frames correlation finished exhausted : Report
 
 pub data Deed : Type 0 where
   near : Float → ℕ → Deed
@@ -89,10 +89,10 @@ with_lag_sums b t = record { envelope = b.envelope; levels = b.levels; window = 
 
 -- a report changes nothing
 abbrev pub reported : Scan → Report → Response
-reported s bin_samples = reports_samples (bin_samples s)
-reported s ceiling_samples = reports_samples (ceiling_samples s)
+reported s bin_samples_report = reports_samples (bin_samples s)
+reported s ceiling_samples_report = reports_samples (ceiling_samples s)
 reported s region = reports_region (region_of s)
-reported s beyond_ceiling = reports_flag (beyond_ceiling s)
+reported s beyond_ceiling_report = reports_flag (beyond_ceiling s)
 reported s frames = reports_count (frames_of s)
 reported s correlation = reports_level (correlation_of s)
 reported s finished = reports_flag (is_finished s)

@@ -1,5 +1,7 @@
 // The coarse scan: its state and answers. The calls stand in the crates above; what each of them does is defined in specs/.
 // One far history, one near frame, one verdict: each is a struct of its own.
+#![tactic(auto)]
+
 use answers::Change;
 use units::Samples;
 
@@ -21,7 +23,7 @@ pub const COARSE_GIVE_UP_FRAMES: u32 = 64;
 pub const COARSE_TAIL_DEFICIT_DEN: u64 = 4;
 
 // What follows from the rate and the ceiling. Span, frame and guards are in bins.
-#[derive(Drop)]
+#[derive(Clone, Copy)]
 pub struct Geometry {
     pub rate: u32,
     pub ceiling: u32,
@@ -34,7 +36,7 @@ pub struct Geometry {
 }
 
 // The far history: the next block, its running sum and partial count, and the samples accepted in all.
-#[derive(Drop)]
+#[derive(Clone, Copy)]
 pub struct Far {
     pub next: u64,
     pub sum: f64,
@@ -43,7 +45,7 @@ pub struct Far {
 }
 
 // The near frame under way: the bins it has, the running sum and partial count of the next one, the frame's first bin, and the index of the last sample taken.
-#[derive(Drop)]
+#[derive(Clone, Copy)]
 pub struct Near {
     pub len: u64,
     pub sum: f64,
@@ -53,13 +55,13 @@ pub struct Near {
 }
 
 // Where the echo lives: a delay in native samples, and its averaged correlation.
-#[derive(Drop)]
+#[derive(Clone, Copy)]
 pub struct Region {
     pub delay: Samples,
     pub correlation: f64,
 }
 
-#[derive(Drop)]
+#[derive(Clone, Copy)]
 pub enum Found {
     Nothing,
     At(Region),
@@ -67,7 +69,7 @@ pub enum Found {
 
 // What the frames so far came to: the frames banked into the lag sums and those counted, the last frame's peak, the region if one was found,
 // whether a peak stood at the ceiling, and whether the scan has given up.
-#[derive(Drop)]
+#[derive(Clone, Copy)]
 pub struct Verdict {
     pub banked: u32,
     pub frames: u32,
@@ -77,7 +79,7 @@ pub struct Verdict {
     pub exhausted: bool,
 }
 
-#[derive(Drop)]
+#[derive(Clone, Copy)]
 pub struct Scan {
     pub geometry: Geometry,
     pub far: Far,
@@ -88,7 +90,7 @@ pub struct Scan {
 // ---- answers, beside those of crate answers. specs/Told.antt numbers their cases.
 
 // A frame's answer: one case of nine.
-#[derive(Drop)]
+#[derive(Clone, Copy)]
 pub enum Frame {
     Uncovered,
     Ahead,
@@ -102,7 +104,7 @@ pub enum Frame {
 }
 
 // Of a near sample: ignored by a finished scan, dropped where no frame goes on with it and it begins none, taken, or taken as the frame's last.
-#[derive(Drop)]
+#[derive(Clone, Copy)]
 pub enum Taking {
     Refused(u8),
     Ignored,
@@ -112,26 +114,26 @@ pub enum Taking {
 }
 
 // Of a frame to be scored: its case, and how many products its lag sums took.
-#[derive(Drop)]
+#[derive(Clone, Copy)]
 pub enum Scoring {
     Refused(u8),
     Frame(Frame, u64),
 }
 
 // Of a report that is neither a count nor a flag.
-#[derive(Drop)]
+#[derive(Clone, Copy)]
 pub enum RegionReport {
     Refused(u8),
     Is(Found),
 }
 
-#[derive(Drop)]
+#[derive(Clone, Copy)]
 pub enum LevelReport {
     Refused(u8),
     Is(f32),
 }
 
-#[derive(Drop)]
+#[derive(Clone, Copy)]
 pub enum SamplesReport {
     Refused(u8),
     Is(Samples),
@@ -139,19 +141,19 @@ pub enum SamplesReport {
 
 // ---- the state that comes back, with the answer
 
-#[derive(Drop)]
+#[derive(Clone, Copy)]
 pub struct Changed {
     pub scan: Scan,
     pub answer: Change,
 }
 
-#[derive(Drop)]
+#[derive(Clone, Copy)]
 pub struct Took {
     pub scan: Scan,
     pub answer: Taking,
 }
 
-#[derive(Drop)]
+#[derive(Clone, Copy)]
 pub struct Scored {
     pub scan: Scan,
     pub answer: Scoring,

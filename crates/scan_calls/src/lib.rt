@@ -1,5 +1,7 @@
 // The coarse scan's state: it is made, reset, rearmed, and asked what it found. No call has a `requires`; what each of them does is defined in crate scan.
 // The modules have the functions behind the calls; `reports` has the calls that only report.
+#![tactic(auto)]
+
 pub mod rules; // refusals 1, 2 and 3, which every call begins with
 pub mod parts; // the parts of a state, as new and exchanged
 pub mod restart; // a making and a reset

@@ -1,9 +1,8 @@
 -- A frame that counts is banked, and on the fourth the averages decide: how the code's two cases meet the definition's.
 use Prim.Native.Nat.{ℕ, ◌+◌, ◌*◌, ◌<◌, ◌≤◌}
-use mathlib.Core.Path.{◌≡◌, refl, sym, ap, ◌∙◌}
+use mathlib.Core.Path.{◌≡◌, sym, ap, ◌∙◌}
 use mathlib.Core.List.{List}
 use native.Mathlib.Nat.{mul-le-mul_right, lt_of_le_of_lt}
-use native.Mathlib.Omega.{arith}
 use lib.ListN.{length}
 use lib.Ieee.{Float, binary64, mul}
 use borrow.Author.Tests.{lt-ltb, le-ltb}

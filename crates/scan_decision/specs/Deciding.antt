@@ -1,5 +1,5 @@
 -- What the parts of the code say to each other. The rules are crate scan's.
-use Rattle.std.specs.Prelude.{ℕ, ◌+◌, ◌*◌, ◌<◌, ◌^◌, List, Float}
+use Rattle.std.specs.Prelude.{◌+◌, ◌*◌, ◌<◌, ◌^◌, List, Float}
 use Rattle.scan.specs.Scoring.{Ruling}
 use Rattle.scan.specs.declared.Geometry.{Geometry}
 use Rattle.scan_decision.specs.declared.Ruled.{Ruled}

@@ -1,4 +1,6 @@
 // Steps 6 to 8 of SPECIFICATION 7: a frame that counts is banked, and on the fourth the averages decide.
+#![tactic(auto)]
+
 ghost use Rattle.std.specs.Prelude.{◌≡◌, ◌+◌, ◌≤◌, ◌<◌, ◌^◌, length};
 ghost use Rattle.std.specs.Float.{binary64};
 ghost use Rattle.std.specs.Float.Ieee.{mul};
@@ -12,7 +14,7 @@ use scan::{Found, Frame, Geometry, Region, Verdict};
 use units::Bins;
 
 // The answer of a frame that counts, and the verdict after it.
-#[derive(Drop)]
+#[derive(Clone, Copy)]
 pub struct Ruled {
     pub answer: Frame,
     pub verdict: Verdict,

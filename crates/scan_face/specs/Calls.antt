@@ -1,6 +1,6 @@
 -- The scan's calls on the words that a host lends.
 use Rattle.std.specs.Prelude.{ℕ, Bool, true, List, [], Float}
-use Rattle.std.specs.Borrow.{Bor}
+use Rattle.std.specs.Borrow.{Bor, MutBor}
 use denote.Triple.Both.{Both}
 use Rattle.answers.specs.Pick.{pick}
 use Rattle.answers.specs.declared.Flag.{Flag}
@@ -41,7 +41,10 @@ history envelope lag_sums = record { envelope = envelope; lag_sums = lag_sums }
 -- ---- lists as a contract has them: what stands in each at the call, and right after it
 
 abbrev pub Lent : Type 0
-Lent = Both (Bor (List Float)) (Bor (List Float))
+Lent = Both (MutBor (List Float)) (MutBor (List Float))
+
+abbrev pub OnlyRead : Type 0
+OnlyRead = Both (Bor (List Float)) (Bor (List Float))
 
 abbrev pub history_given : Lent → Lent → History
 history_given envelope lag_sums = history envelope.entry.now lag_sums.entry.now
@@ -49,12 +52,12 @@ history_given envelope lag_sums = history envelope.entry.now lag_sums.entry.now
 abbrev pub history_left : Lent → Lent → History
 history_left envelope lag_sums = history envelope.exit.now lag_sums.exit.now
 
-abbrev pub buffers_given : Lent → Lent → Lent → Lent → Lent → Lent → Lent → Buffers
+abbrev pub buffers_given : OnlyRead → OnlyRead → Lent → Lent → Lent → Lent → Lent → Buffers
 buffers_given envelope levels window prefix squares scores lag_sums =
     lent envelope.entry.now levels.entry.now window.entry.now prefix.entry.now squares.entry.now scores.entry.now lag_sums.entry.now
 
 -- envelope and levels are only read
-abbrev pub buffers_left : Lent → Lent → Lent → Lent → Lent → Lent → Lent → Buffers
+abbrev pub buffers_left : OnlyRead → OnlyRead → Lent → Lent → Lent → Lent → Lent → Buffers
 buffers_left envelope levels window prefix squares scores lag_sums =
     lent envelope.entry.now levels.entry.now window.exit.now prefix.exit.now squares.exit.now scores.exit.now lag_sums.exit.now
 

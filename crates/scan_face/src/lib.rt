@@ -1,4 +1,6 @@
 // The scan's calls. crates/scan_words/specs/Layout.antt says where each field of its state stands.
+#![tactic(auto)]
+
 ghost use Rattle.std.specs.Prelude.{◌≡◌};
 ghost use Rattle.scan.specs.Bins.{full_slack, geometry_of, envelope_len, near_len, window_len, prefix_len, lags};
 ghost use Rattle.scan_words.specs.Layout.{scan_words};

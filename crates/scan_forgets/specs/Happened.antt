@@ -8,7 +8,7 @@ use Rattle.answers.specs.Numbers.{next_long_count}
 use Rattle.answers.specs.Refusals.{none}
 use Rattle.scan.specs.Bins.{full_slack}
 use Rattle.scan.specs.State.{Buffers, World}
-use Rattle.scan.specs.Steps.{Call, Response, near, score, rearm, discard, reset, ask, far, deed, refusal_of, called, changes, takes, scores, reports_count, reports_flag, reports_level, reports_region, reports_samples, bin_samples, ceiling_samples, region, beyond_ceiling, frames, correlation, finished, exhausted, with_envelope, with_levels, with_lag_sums}
+use Rattle.scan.specs.Steps.{Call, Response, near, score, rearm, discard, reset, ask, far, deed, refusal_of, called, changes, takes, scores, reports_count, reports_flag, reports_level, reports_region, reports_samples, bin_samples_report, ceiling_samples_report, region, beyond_ceiling_report, frames, correlation, finished, exhausted, with_envelope, with_levels, with_lag_sums}
 use Rattle.scan_score.specs.Observing.{world, lent}
 use Rattle.scan_calls.proofs.new.Kinds as new-kinds
 use Rattle.scan_calls.proofs.new.Reads as new-reads
@@ -98,10 +98,10 @@ pub data Happened : World → List Answered → World → Type 0 where
       → Happened w (one w (deed discard) (changes f.result.answer)) (world f.result.scan (with_lag_sums w.buffers f.left.1.0.now))
   by_reset_call : (f : Return 2 reset-kinds.ps reset-kinds.r reset-reads.Post) (w : World) → w.scan ≡ f.given.0 → w.buffers.envelope ≡ f.given.1.0.now → w.buffers.lag_sums ≡ f.given.1.1.0.now
       → Happened w (one w (deed reset) (changes f.result.answer)) (world f.result.scan (with_lag_sums (with_envelope w.buffers f.left.1.0.now) f.left.1.1.0.now))
-  by_bin_samples : (f : Return 0 bin-samples-kinds.ps bin-samples-kinds.r bin-samples-reads.Post) (w : World) → w.scan ≡ f.given.0 → Happened w (one w (deed (ask bin_samples)) (reports_samples f.result)) w
-  by_ceiling_samples : (f : Return 0 ceiling-samples-kinds.ps ceiling-samples-kinds.r ceiling-samples-reads.Post) (w : World) → w.scan ≡ f.given.0 → Happened w (one w (deed (ask ceiling_samples)) (reports_samples f.result)) w
+  by_bin_samples : (f : Return 0 bin-samples-kinds.ps bin-samples-kinds.r bin-samples-reads.Post) (w : World) → w.scan ≡ f.given.0 → Happened w (one w (deed (ask bin_samples_report)) (reports_samples f.result)) w
+  by_ceiling_samples : (f : Return 0 ceiling-samples-kinds.ps ceiling-samples-kinds.r ceiling-samples-reads.Post) (w : World) → w.scan ≡ f.given.0 → Happened w (one w (deed (ask ceiling_samples_report)) (reports_samples f.result)) w
   by_region : (f : Return 0 region-kinds.ps region-kinds.r region-reads.Post) (w : World) → w.scan ≡ f.given.0 → Happened w (one w (deed (ask region)) (reports_region f.result)) w
-  by_beyond_ceiling : (f : Return 0 beyond-ceiling-kinds.ps beyond-ceiling-kinds.r beyond-ceiling-reads.Post) (w : World) → w.scan ≡ f.given.0 → Happened w (one w (deed (ask beyond_ceiling)) (reports_flag f.result)) w
+  by_beyond_ceiling : (f : Return 0 beyond-ceiling-kinds.ps beyond-ceiling-kinds.r beyond-ceiling-reads.Post) (w : World) → w.scan ≡ f.given.0 → Happened w (one w (deed (ask beyond_ceiling_report)) (reports_flag f.result)) w
   by_frames : (f : Return 0 frames-kinds.ps frames-kinds.r frames-reads.Post) (w : World) → w.scan ≡ f.given.0 → Happened w (one w (deed (ask frames)) (reports_count f.result)) w
   by_correlation : (f : Return 0 correlation-kinds.ps correlation-kinds.r correlation-reads.Post) (w : World) → w.scan ≡ f.given.0 → Happened w (one w (deed (ask correlation)) (reports_level f.result)) w
   by_finished : (f : Return 0 finished-kinds.ps finished-kinds.r finished-reads.Post) (w : World) → w.scan ≡ f.given.0 → Happened w (one w (deed (ask finished)) (reports_flag f.result)) w
@@ -121,8 +121,8 @@ pub data InTurn : World → List Answered → World → Type 0 where
   next : {w w' w'' : World} {now later : List Answered} → Happened w now w' → InTurn w' later w'' → InTurn w (now ++ later) w''
   foreign : {v v' w' : World} {other later : List Answered} (around : World → World) → Happened v other v' → AllRefused other → InTurn (around v') later w' → InTurn (around v) later w'
   unmade : {w' : World} {later : List Answered} (around : Buffers → World) (f : Return 2 new-kinds.ps new-kinds.r new-reads.Post) (b : Buffers)
-      → b.envelope ≡ now f.given.1.1.0 → b.lag_sums ≡ now f.given.1.1.1.0 → (refusal_of (changes f.result.answer) ≡ none → ⊥)
-      → InTurn (around (with_lag_sums (with_envelope b (now f.left.1.1.0)) (now f.left.1.1.1.0))) later w' → InTurn (around b) later w'
+      → b.envelope ≡ f.given.1.1.0.now → b.lag_sums ≡ f.given.1.1.1.0.now → (refusal_of (changes f.result.answer) ≡ none → ⊥)
+      → InTurn (around (with_lag_sums (with_envelope b f.left.1.1.0.now) f.left.1.1.1.0.now)) later w' → InTurn (around b) later w'
 
 -- ---- a stream began
 

@@ -1,26 +1,24 @@
 -- Single pushes of a run's samples, one after the other: `RunIsSingles`, `RefusedIff` and their like.
-use Prim.Native.Nat.{ℕ, zero, suc, ◌+◌, ◌-◌, ◌≤◌, ◌<◌, min}
-use mathlib.Core.Path.{◌≡◌, refl, sym, ap, ◌∙◌, subst}
-use mathlib.Core.List.{List, [], ◌∷◌, ◌++◌}
-use mathlib.Core.Bool.{Bool, true, false, not, true≢false, false≢true}
+use Prim.Native.Nat.{ℕ, zero, suc, ◌+◌, ◌-◌, ◌≤◌, ◌<◌}
+use mathlib.Core.Path.{◌≡◌, refl, sym, ap, ◌∙◌}
+use mathlib.Core.List.{List, [], ◌∷◌}
+use mathlib.Core.Bool.{Bool, true, false, not, true≢false}
 use mathlib.Core.Logic.{inl, inr}
-use native.Mathlib.Nat.{add-zero, zero-add, min-eq_left, min-eq_right, min-le_left, min-le_right}
+use native.Mathlib.Nat.{add-zero}
 use native.Mathlib.Omega.{arith}
 use lib.Dec.{T, ltb, eqb}
-use lib.ListN.{length, take, drop, replicate}
-use lib.Seq.{length-take-le, take_all}
+use lib.ListN.{length, drop}
 use lib.Ieee.{Float, binary32, binary64, fits}
 use lib.Ieee.Scale.{finite}
 use borrow.Author.Tests.{ltb-true, lt-ltb, eqb-true, eqb-false, eq-eqb, ne_eqb}
-use Rattle.answers.specs.Pick.{pick, both, either, pick_true, pick_false, pick_case}
-use Rattle.answers.specs.Refusals.{require, before, if_refused, none, frame_waits, too_large, not_finite}
+use Rattle.answers.specs.Pick.{pick, either, pick_true, pick_false}
+use Rattle.answers.specs.Refusals.{require, none, too_large, not_finite}
 use Rattle.answers.specs.Numbers.{limit}
 use Rattle.answers.proofs.Refusals.{passed}
 use Rattle.floats.proofs.Compare.{le_or_lt}
 use Rattle.folds.specs.Sums.{all_finite}
-use Rattle.scan.specs.Bins.{near_len}
-use Rattle.scan.specs.State.{emptied, finished, full, idle, due, first_refusals}
-use Rattle.scan.specs.Blocks.{Seen, gather, dropped, hole, held_at}
+use Rattle.scan.specs.State.{full, idle}
+use Rattle.scan.specs.Blocks.{Seen, gather, dropped, held_at}
 use Rattle.scan.specs.Calls.{NearPush, near_refusal, untaken, taken_by, with_near, pushed_near}
 use Rattle.scan.specs.Streams.{AllF32}
 use Rattle.scan.specs.declared.Geometry.{Geometry}
@@ -30,14 +28,11 @@ use Rattle.scan.specs.declared.Taking.{Taking}
 use Rattle.scan.specs.declared.Taking.TheVariants as taking
 use Rattle.scan.proofs.Laws.{both_left, both_right, either_left, either_right}
 use Rattle.scan.proofs.Held.{held_next}
-use Rattle.scan_calls.specs.Bounds.{Bounds}
 use Rattle.scan_calls.proofs.Chains.{yes, no, later}
 use Rattle.scan_push.proofs.Calls.{not_taken, is_dropped, is_taken}
-use Rattle.scan_handover.specs.declared.RunTaking.{RunTaking}
-use Rattle.scan_handover.specs.declared.RunTaking.TheVariants as run
-use Rattle.scan_handover.specs.Handover.{lead, wants, takes, goes_in, part_refusal, run_refusal, gather_all, handed}
-use Rattle.scan_handover.specs.Singles.{Pushes, preceded, singles, is_refused, one_refused, Takes}
-use Rattle.scan_handover.proofs.Places.{Standing, standing, bounded, standing_takes, held_standing, held_idle, held_on, held_twice, none_dropped, not_idle_leads, dropped_idle, one_dropped, leads_dropped, leads_none, gather_last, gather_busy, gather_length, gather_fits, gather_full, gather_wants, gather_standing}
+use Rattle.scan_handover.specs.Handover.{lead, wants, gather_all}
+use Rattle.scan_handover.specs.Singles.{preceded, singles, is_refused, one_refused, Takes}
+use Rattle.scan_handover.proofs.Places.{standing, bounded, standing_takes, held_standing, held_idle, held_on, held_twice, not_idle_leads, dropped_idle, one_dropped, leads_dropped, leads_none, gather_last, gather_busy, gather_length, gather_fits, gather_full, gather_wants, gather_standing}
 
 -- ---- the refusals that are left for a sample, in a state that takes samples
 

@@ -2,7 +2,7 @@
 use Prim.Native.Nat.{ℕ, ◌+◌, ◌-◌, ◌*◌, ◌%◌, ◌≤◌, ◌<◌, min}
 use mathlib.Core.Path.{◌≡◌, refl, sym, ap, ◌∙◌, subst}
 use mathlib.Core.List.{List}
-use mathlib.Core.Bool.{Bool, true, false, not}
+use mathlib.Core.Bool.{true, false, not}
 use native.Mathlib.Nat.{mod-lt, mul-le-mul}
 use native.Mathlib.Omega.{arith}
 use lib.Dec.{ltb, eqb}
@@ -10,13 +10,13 @@ use lib.ListN.{length, take, drop}
 use lib.Ieee.{Float}
 use borrow.Author.Tests.{ltb-true, eq-eqb, ne_eqb}
 use Rattle.answers.specs.Pick.{pick, either, pick_true, pick_false, pick_case}
-use Rattle.answers.specs.Refusals.{require, before, none, too_large, not_finite, frame_waits}
+use Rattle.answers.specs.Refusals.{require, none, too_large, not_finite}
 use Rattle.answers.specs.Numbers.{limit}
 use Rattle.answers.proofs.Refusals.{passed}
 use Rattle.folds.specs.Sums.{all_finite}
 use Rattle.scan.specs.Bins.{near_len}
-use Rattle.scan.specs.State.{finished, full, idle, taken, due, first_refusals}
-use Rattle.scan.specs.Blocks.{Seen, held_at}
+use Rattle.scan.specs.State.{finished, full, idle, due, first_refusals}
+use Rattle.scan.specs.Blocks.{held_at}
 use Rattle.scan.specs.Calls.{with_near}
 use Rattle.scan.specs.declared.Geometry.{Geometry}
 use Rattle.scan.specs.declared.Near.{Near}
@@ -27,7 +27,7 @@ use Rattle.scan_handover.specs.declared.RunTaking.TheVariants as run
 use Rattle.scan_handover.specs.declared.Handed.{Handed}
 use Rattle.scan_handover.specs.Handover.{lead, wants, takes, goes_in, part_refusal, run_refusal, NearRun, gather_all, unchanged, taken_all, handed}
 use Rattle.scan_handover.specs.Singles.{Takes}
-use Rattle.scan_handover.specs.Ready.{HandsOver, Wants, Fills, FillsBetween}
+use Rattle.scan_handover.specs.Ready.{HandsOver, Wants, FillsBetween}
 use Rattle.scan_handover.proofs.Places.{room_left, standing, bounded, fitting, held_standing}
 use Rattle.scan_handover.proofs.Gathers.{part_length}
 

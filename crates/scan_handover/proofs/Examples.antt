@@ -1,11 +1,9 @@
 -- The definition of a run, tried on numbers: a scan at 8,000 with 8 samples a bin and 256 bins a frame. Each row is a state, a run and what is due.
-use Prim.Native.Nat.{ℕ, ◌+◌, ◌-◌, ◌*◌, ◌^◌}
+use Prim.Native.Nat.{ℕ, ◌+◌, ◌-◌, ◌^◌}
 use mathlib.Core.Path.{◌≡◌, refl}
 use mathlib.Core.List.{List, [], ◌∷◌}
 use mathlib.Core.Bool.{Bool, true, false}
-use lib.Dec.{eqb, leb, ltb}
 use lib.IntN.{pos}
-use lib.ListN.{length}
 use lib.Ieee.{Float, nan, fin}
 use Rattle.answers.specs.Pick.{pick}
 use Rattle.floats.specs.Functions.{zero64}
@@ -15,7 +13,6 @@ use Rattle.scan.specs.State.{new_far, far_rule, near_rule, verdict_rule, keeps_r
 use Rattle.scan.specs.Blocks.{gather}
 use Rattle.scan.specs.declared.Found.TheVariants.{Nothing}
 use Rattle.scan.specs.declared.Near.{Near}
-use Rattle.scan.specs.declared.Verdict.{Verdict}
 use Rattle.scan.specs.declared.Scan.{Scan}
 use Rattle.scan_handover.specs.declared.RunTaking.{RunTaking}
 use Rattle.scan_handover.specs.declared.RunTaking.TheVariants as run

@@ -2,7 +2,7 @@
 use Prim.Native.Nat.{ℕ, zero, suc, ◌+◌, ◌-◌, ◌*◌, ◌≤◌, ◌<◌}
 use mathlib.Core.Path.{◌≡◌, refl, sym, ap, ◌∙◌, subst}
 use mathlib.Core.List.{List, [], ◌∷◌, ◌++◌}
-use mathlib.Core.Bool.{Bool, true, false}
+use mathlib.Core.Bool.{true, false}
 use mathlib.Core.Logic.{inl, inr}
 use native.Mathlib.Nat.{add-zero, zero-add, add-mul, mul-le-mul_right}
 use native.Mathlib.Numerals.{add-one}
@@ -14,11 +14,10 @@ use lib.Ieee.{Float, nan}
 use lib.Ieee.Scale.{finite}
 use borrow.Author.Tests.{eq-eqb, ne_eqb}
 use Rattle.answers.specs.Pick.{pick, pick_true, pick_false}
-use Rattle.answers.specs.Numbers.{limit}
 use Rattle.floats.specs.Functions.{zero64}
 use Rattle.floats.proofs.Compare.{le_or_lt}
 use Rattle.folds.specs.Sums.{all_finite, at}
-use Rattle.scan.specs.State.{idle, taken}
+use Rattle.scan.specs.State.{idle}
 use Rattle.scan.specs.Blocks.{Seen, gather, first_bin, summed, level_of}
 use Rattle.scan.specs.declared.Geometry.{Geometry}
 use Rattle.scan.specs.declared.Near.{Near}

@@ -1,20 +1,16 @@
 -- In a stream, a run stands for the single calls of the part that it takes: `RunInStream`.
-use Prim.Native.Nat.{ℕ, zero, suc, ◌+◌}
-use mathlib.Core.Path.{◌≡◌, refl, sym, ap, ◌∙◌, subst}
+use Prim.Native.Nat.{ℕ, ◌+◌}
+use mathlib.Core.Path.{◌≡◌, refl, sym, ap, ◌∙◌}
 use mathlib.Core.List.{List, [], ◌∷◌}
-use lib.Dec.{T}
 use lib.ListN.{take}
-use lib.Ieee.{Float, binary32, fits}
+use lib.Ieee.{Float}
 use Rattle.scan.specs.State.{World}
-use Rattle.scan.specs.Blocks.{held_at}
 use Rattle.scan.specs.Calls.{pushed_near}
 use Rattle.scan.specs.Steps.{near, deed, Response, takes, with_levels, called}
-use Rattle.scan.specs.Streams.{AllF32, Item, own, after, answers, Fair}
-use Rattle.scan.specs.declared.Taking.{Taking}
-use Rattle.scan_handover.specs.declared.RunTaking.TheVariants as run
-use Rattle.scan_handover.specs.Handover.{lead, NearRun, unchanged, handed}
-use Rattle.scan_handover.specs.Singles.{Pushes, singles, taken_in, singly}
-use Rattle.scan_handover.specs.InStreams.{as_items, as_responses, after_run, items_of, StandsFor, RunInStream, RefusedInStream}
+use Rattle.scan.specs.Streams.{AllF32, after, answers, Fair}
+use Rattle.scan_handover.specs.Handover.{NearRun, handed}
+use Rattle.scan_handover.specs.Singles.{Pushes, singles, taken_in}
+use Rattle.scan_handover.specs.InStreams.{as_items, as_responses, RunInStream, RefusedInStream}
 use Rattle.scan_handover.proofs.Calls.{not_handed}
 use Rattle.scan_handover.proofs.Theorems.{run_is_singles, all_f32}
 

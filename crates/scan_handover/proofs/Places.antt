@@ -1,36 +1,34 @@
 -- Where the samples of a run stand: how many are dropped before a frame begins, how many a frame still wants, and both after one sample more.
-use Prim.Native.Nat.{ℕ, zero, suc, ◌+◌, ◌-◌, ◌*◌, ◌/◌, ◌%◌, ◌≤◌, ◌<◌}
-use mathlib.Core.Path.{◌≡◌, refl, sym, ap, ◌∙◌, subst}
-use mathlib.Core.List.{List, [], ◌∷◌}
-use mathlib.Core.Bool.{Bool, true, false, not, true≢false, false≢true}
+use Prim.Native.Nat.{ℕ, ◌+◌, ◌-◌, ◌*◌, ◌%◌, ◌≤◌, ◌<◌}
+use mathlib.Core.Path.{◌≡◌, refl, sym, ap, ◌∙◌}
+use mathlib.Core.List.{List}
+use mathlib.Core.Bool.{Bool, true, false, not, true≢false}
 use mathlib.Core.Logic.{inl, inr}
 use native.Mathlib.Nat.{mod-lt, mod_self, mod-eq_of_lt, mod-add-mod, mul-le-mul_right, add-mul, one-mul, div-mul-le_self}
 use native.Mathlib.Omega.{arith}
 use lib.Dec.{T, leb, ltb, eqb}
-use lib.ListN.{length, set, length-set}
+use lib.ListN.{length, length-set}
 use lib.Ieee.{Float, binary32, binary64, fits}
 use lib.Ieee.Scale.{finite}
 use borrow.Author.Tests.{leb-true, ltb-true, lt-ltb, le-leb, eqb-true, eqb-false, eq-eqb, ne_eqb, not-false}
-use Rattle.answers.specs.Pick.{pick, both, either, pick_true, pick_false, pick_case}
-use Rattle.answers.specs.Refusals.{none}
+use Rattle.answers.specs.Pick.{either, pick_true, pick_false, pick_case}
 use Rattle.answers.specs.Numbers.{limit}
 use Rattle.answers.proofs.Refusals.{passed}
 use Rattle.floats.specs.Functions.{zero64}
 use Rattle.floats.proofs.Compare.{le_or_lt}
 use Rattle.scan.specs.Bins.{in_table, near_len}
-use Rattle.scan.specs.State.{emptied, finished, full, idle, taken, due, far_rule, near_rule, verdict_rule, keeps_rules, geometry_rule, first_refusals}
-use Rattle.scan.specs.Blocks.{Seen, gather, on_grid, dropped, hole, held_at, first_bin, summed, level_of}
+use Rattle.scan.specs.State.{emptied, full, idle, taken, due, far_rule, near_rule, verdict_rule, keeps_rules, geometry_rule, first_refusals}
+use Rattle.scan.specs.Blocks.{Seen, gather, on_grid, dropped, hole, held_at, first_bin}
 use Rattle.scan.specs.Calls.{with_near}
 use Rattle.scan.specs.declared.Geometry.{Geometry}
 use Rattle.scan.specs.declared.Near.{Near}
 use Rattle.scan.specs.declared.Scan.{Scan}
 use Rattle.scan.proofs.Laws.{both_and, both_left, both_right, either_or}
-use Rattle.scan.proofs.Held.{Placed, emptied_idle, held_under_way, held_next, block_placed, stands}
+use Rattle.scan.proofs.Held.{Placed, emptied_idle, block_placed, stands}
 use Rattle.scan_calls.specs.Bounds.{Bounds}
 use Rattle.scan_calls.proofs.Passing.{pass, fits as lengths_fit}
 use Rattle.scan_handover.specs.Handover.{lead, wants}
 use Rattle.scan_handover.specs.Singles.{Takes}
-use Rattle.scan_handover.specs.Ready.{Wants}
 use Rattle.scan_handover.proofs.Sums.{summed_finite, summed_fits}
 
 -- ---- the samples up to the grid, D samples a bin

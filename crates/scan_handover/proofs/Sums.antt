@@ -1,9 +1,9 @@
 -- A finite f64 plus the magnitude of a finite f32 is finite: the largest f64 plus the largest f32 rounds to the largest f64, and rounding is monotone.
 use Prim.Native.Nat.{ℕ, zero, suc, ◌+◌, ◌-◌, ◌*◌, ◌%◌, ◌^◌, ◌≤◌, ◌<◌, zero-le}
 use mathlib.Core.Path.{◌≡◌, refl, sym, ap, ◌∙◌, subst}
-use mathlib.Core.Bool.{Bool, true, false, ◌&&◌, cond, true≢false, false≢true}
+use mathlib.Core.Bool.{Bool, true, false, ◌&&◌, cond, false≢true}
 use mathlib.Core.Logic.{inl, inr}
-use native.Mathlib.Nat.{le_trans, le_of_eq, le_of_lt, lt_of_mul-lt-mul_right, mul_assoc, mul_comm, mul-one, one-mul, zero-mul, mul_right_comm, mul-le-mul, mul-le-mul_left, mul-le-mul_right, mul-pos, add-mul, add-le-add, sub-le}
+use native.Mathlib.Nat.{le_trans, le_of_eq, le_of_lt, lt_of_mul-lt-mul_right, mul_assoc, mul_comm, mul-one, one-mul, zero-mul, mul-le-mul, mul-le-mul_left, mul-le-mul_right, mul-pos, add-mul, add-le-add}
 use native.Mathlib.Omega.{arith}
 use lib.Dec.{T, leb, ltb, eqb, ltb→lt, lit≤, lit<}
 use lib.IntN.{ℤ, pos, negsuc}

@@ -2,40 +2,37 @@
 use Prim.Native.Nat.{ℕ, zero, suc, ◌+◌, ◌-◌, ◌≤◌, ◌<◌, min}
 use mathlib.Core.Path.{◌≡◌, refl, sym, ap, ◌∙◌, subst}
 use mathlib.Core.List.{List, [], ◌∷◌, ◌++◌}
-use mathlib.Core.Bool.{Bool, true, false, not, true≢false, false≢true}
+use mathlib.Core.Bool.{Bool, true, false, not, true≢false}
 use native.Mathlib.Nat.{zero-min, min-zero, suc-min-suc}
 use native.Mathlib.Omega.{arith}
 use lib.Dec.{T, ltb, eqb}
 use lib.ListN.{length, take, drop, replicate, length-take}
 use lib.Seq.{take_all}
-use lib.Ieee.{Float, nan, binary32, binary64, fits}
-use lib.Ieee.Scale.{finite}
+use lib.Ieee.{Float, nan, binary64, fits}
 use borrow.Author.Tests.{ltb-true, lt-ltb, eqb-true, eqb-false, eq-eqb, ne_eqb, not-true}
 use Rattle.answers.specs.Pick.{pick, either, pick_true, pick_false, pick_case}
-use Rattle.answers.specs.Refusals.{require, before, none, frame_waits, too_large, not_finite}
+use Rattle.answers.specs.Refusals.{none, too_large, not_finite}
 use Rattle.answers.specs.Numbers.{limit}
 use Rattle.answers.proofs.Refusals.{passed, passed_both}
-use Rattle.floats.specs.Functions.{zero64}
 use Rattle.folds.specs.Sums.{all_finite}
 use Rattle.scan.specs.Bins.{near_len}
 use Rattle.scan.specs.State.{emptied, finished, full, due, first_refusals}
-use Rattle.scan.specs.Blocks.{Seen, dropped, hole, held_at}
-use Rattle.scan.specs.Calls.{NearPush, near_refusal, untaken, with_near, pushed_near}
+use Rattle.scan.specs.Blocks.{Seen, hole, held_at}
+use Rattle.scan.specs.Calls.{NearPush, near_refusal, with_near, pushed_near}
 use Rattle.scan.specs.Streams.{AllF32}
 use Rattle.scan.specs.declared.Geometry.{Geometry}
 use Rattle.scan.specs.declared.Near.{Near}
 use Rattle.scan.specs.declared.Scan.{Scan}
 use Rattle.scan.specs.declared.Taking.{Taking}
 use Rattle.scan.specs.declared.Taking.TheVariants as taking
-use Rattle.scan.proofs.Laws.{both_left, either_left, either_right}
 use Rattle.scan_calls.proofs.Chains.{yes, no, earlier, later}
 use Rattle.scan_push.proofs.Calls as single
 use Rattle.scan_handover.specs.declared.RunTaking.{RunTaking}
 use Rattle.scan_handover.specs.declared.RunTaking.TheVariants as run
 use Rattle.scan_handover.specs.Handover.{lead, wants, takes, goes_in, part_refusal, run_refusal, NearRun, gather_all, unchanged, taken_all, handed}
-use Rattle.scan_handover.specs.Singles.{Pushes, preceded, singles, taken_in, singly, by_one, SameAsSingles, RunIsSingles, is_refused, one_refused, Takes, RefusedIff, RefusedFirst, RefusedWaiting}
+use Rattle.scan_handover.specs.Singles.{Pushes, preceded, singles, taken_in, singly, RunIsSingles, is_refused, one_refused, Takes, RefusedIff, RefusedFirst, RefusedWaiting}
 use Rattle.scan_handover.proofs.Places.{bounded, held_twice}
-use Rattle.scan_handover.proofs.Alike.{answers_at, Along, Ends, all_pass, all_full, none_refused, found_takes, found_refusal, found_push, passes}
+use Rattle.scan_handover.proofs.Alike.{answers_at, Along, all_pass, all_full, none_refused, found_takes, found_refusal, found_push}
 use Rattle.scan_handover.proofs.Calls as call
 use Rattle.scan_handover.proofs.Calls.{held_wants, wants_some, not_empty}
 

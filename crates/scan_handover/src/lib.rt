@@ -1,5 +1,7 @@
 // Near samples in runs (request a): one call takes a run with its first index and ends after the sample that completes a frame. The part that would be taken is
 // checked first and as a whole; a refused run takes nothing. The call has no `requires`; what it does is defined in specs/Handover.
+#![tactic(auto)]
+
 mod part; // the part that would be taken
 mod fill; // its samples go into the frame
 
@@ -17,7 +19,7 @@ use scan_calls::{parts, rules};
 use scan_push::near;
 
 // Of a run: refused, ignored by a finished scan, taken, or taken up to the frame's last sample; with the number of its samples that were ignored or taken.
-#[derive(Drop)]
+#[derive(Clone, Copy)]
 pub enum RunTaking {
     Refused(u8),
     Ignored(usize),
@@ -26,7 +28,7 @@ pub enum RunTaking {
 }
 
 // The state that comes back, with the answer.
-#[derive(Drop)]
+#[derive(Clone, Copy)]
 pub struct Handed {
     pub scan: Scan,
     pub answer: RunTaking,

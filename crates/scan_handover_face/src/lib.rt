@@ -1,4 +1,6 @@
 // The call of request a, near samples in runs, on the words that a host lends. The scan's other calls are in crate scan_face.
+#![tactic(auto)]
+
 ghost use Rattle.std.specs.Prelude.{◌≡◌, length};
 ghost use Rattle.words.specs.Words.{one_value};
 ghost use Rattle.words.specs.Answers.{number, given};

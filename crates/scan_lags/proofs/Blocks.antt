@@ -1,8 +1,8 @@
 -- Laws of a block of lags: one product more for each, the scores of a block that has no flat lag, and how many lags are counted.
-use Rattle.std.proofs.Common.{◌≡◌, ℕ, zero, suc, ◌+◌, ◌<◌, ◌≤◌, Bool, true, false, not, List, length, sym, refl, ap, ◌∙◌, add-one, arith}
+use Rattle.std.proofs.Common.{◌≡◌, ℕ, zero, suc, ◌+◌, ◌<◌, ◌≤◌, Bool, true, false, not, List, sym, ap, ◌∙◌, add-one, arith}
 use lib.Ieee.{Float, binary64, add, mul, le}
 use Rattle.answers.specs.Pick.{pick, pick_true, pick_false, pick_all}
-use Rattle.folds.specs.Sums.{upto, table, at}
+use Rattle.folds.specs.Sums.{table, at}
 use Rattle.folds.specs.Rewriting.{Rewritten}
 use Rattle.folds.proofs.Laws.{more, table_ext, at_table}
 use Rattle.scan.specs.Scoring.{energy_floor}

@@ -1,10 +1,10 @@
 -- The scores and the count as the code forms them are the definition's.
-use Rattle.std.proofs.Common.{◌≡◌, ℕ, zero, suc, ◌+◌, ◌<◌, ◌≤◌, List, length, sym, refl, ap, ◌∙◌, arith}
+use Rattle.std.proofs.Common.{◌≡◌, ℕ, zero, suc, ◌+◌, ◌<◌, ◌≤◌, List, length, refl, ap, ◌∙◌, arith}
 use lib.Ieee.{Float}
-use Rattle.folds.specs.Sums.{upto, table, at, prefix_sums, prefix_squares}
+use Rattle.folds.specs.Sums.{table, at, prefix_sums, prefix_squares}
 use Rattle.folds.proofs.Laws.{upto_ext, table_ext, at_table, length_table}
 use Rattle.scan.specs.Scoring.{centred, near_energy, segment_energy, lag_product, score_at, live, live_lags}
-use Rattle.scan_lags.specs.Lags.{Starts, energy_from, products_of, score_from, above, above_in}
+use Rattle.scan_lags.specs.Lags.{Starts, energy_from, products_of, score_from, above_in}
 
 -- the energies as the code forms them
 same_energies : (window sums squares energies : List Float) (frame n : ℕ) → sums ≡ prefix_sums window → squares ≡ prefix_squares window → energies ≡ table (energy_from sums squares frame) n

@@ -1,5 +1,7 @@
 // Step 5 of SPECIFICATION 7: the score of every lag. Sixteen lags go at once, each with its own ascending sum, so every bit is the definition's.
 // The products of a lag whose energy is at or below the floor are not formed, and the lags whose products are formed are counted as that is done (request h).
+#![tactic(auto)]
+
 ghost use Rattle.std.specs.Prelude.{◌≡◌, ℕ, ◌+◌, ◌^◌, ◌<◌, ◌≤◌, true, false, List, length, Float};
 ghost use Rattle.std.specs.Float.{binary64};
 ghost use Rattle.std.specs.Float.Ieee.{add, mul, le};
@@ -18,14 +20,14 @@ use root_table::first_guesses;
 pub const ENERGY_FLOOR: f64 = 1e-12;
 
 // A lag's score, and 1 if its products were formed, else 0.
-#[derive(Drop)]
+#[derive(Clone, Copy)]
 struct LagScore {
     score: f64,
     live: u64,
 }
 
 // The lag that comes next, and how many lags before it had their products formed in this step.
-#[derive(Drop)]
+#[derive(Clone, Copy)]
 struct Went {
     next: usize,
     live: u64,

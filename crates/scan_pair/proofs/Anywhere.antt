@@ -9,7 +9,7 @@ use Rattle.scan.specs.Steps.{Response, changes, deed}
 use Rattle.scan.proofs.Scratch.{ScratchAlike, called_scratch}
 use Rattle.scan_pair.specs.State.{Side, first, second, other, Named, channel, unknown, named, PairWorld, common, seen}
 use Rattle.scan_pair.specs.Calls.{pair_far, pair_bin_samples, pair_ceiling_samples}
-use Rattle.scan_pair.specs.Steps.{Own, as_deed, Setting, bin_samples, ceiling_samples, on, far, reset, settings, setting_reported, PairStep, own_called, pair_called}
+use Rattle.scan_pair.specs.Steps.{Own, as_deed, Setting, bin_samples_report, ceiling_samples_report, on, far, reset, settings, setting_reported, PairStep, own_called, pair_called}
 use Rattle.scan_pair.specs.Streams.{PairItem, own, foreign, its, own_share, share, with_answer, answers_to, unless_named, without, NoResetIn, ApartAnywhere}
 use Rattle.scan_pair.proofs.Channels.{by_its_own}
 use Rattle.scan_pair.proofs.Together.{far_seen}
@@ -56,8 +56,8 @@ module _ (slack : ℕ) (d : Side) (w v : PairWorld) (h : ScratchAlike (seen w d)
   setting_moves r = record { response = same r; world = h }
     where
       same : (r : Setting) → setting_reported w.pair r ≡ setting_reported v.pair r
-      same bin_samples = (unfold pair_bin_samples in rw same_common)
-      same ceiling_samples = (unfold pair_ceiling_samples in rw same_common)
+      same bin_samples_report = (unfold pair_bin_samples in rw same_common)
+      same ceiling_samples_report = (unfold pair_ceiling_samples in rw same_common)
 
 -- ---- lists
 

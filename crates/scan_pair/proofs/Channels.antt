@@ -19,7 +19,7 @@ use Rattle.scan.proofs.Scratch.{ScratchLengths, ScratchAlike, called_lengths}
 use Rattle.scan_pair.specs.declared.Pair.{Pair}
 use Rattle.scan_pair.specs.State.{Side, first, second, other, number_of, Named, channel, unknown, named, side_of, no_such_channel, PairWorld, chosen, own_buffers, seen, put_back}
 use Rattle.scan_pair.specs.Calls.{left_in, pair_near, pair_observed, pair_rearmed, pair_discarded, pair_region, pair_beyond_ceiling, pair_frames, pair_correlation, pair_finished, pair_exhausted}
-use Rattle.scan_pair.specs.Steps.{OwnReport, region, beyond_ceiling, frames, correlation, exhausted, Own, near, score, rearm, discard, ask, as_report, as_deed, PairStep, own_reported, own_called, on, pair_called}
+use Rattle.scan_pair.specs.Steps.{OwnReport, region, beyond_ceiling_report, frames, correlation, exhausted, Own, near, score, rearm, discard, ask, as_report, as_deed, PairStep, own_reported, own_called, on, pair_called}
 use Rattle.scan_pair.specs.Steps
 
 -- ---- what a call of a scan leaves alone, if it is no far push and no reset
@@ -126,7 +126,7 @@ leaves_whole w second v h =
 
 report_own : (p : PairWorld) (d : Side) (r : OwnReport) → own_reported p.pair (channel d) r ≡ reported (seen p d).scan (as_report r)
 report_own p d region = (unfold pair_region in refl)
-report_own p d beyond_ceiling = (unfold pair_beyond_ceiling in refl)
+report_own p d beyond_ceiling_report = (unfold pair_beyond_ceiling in refl)
 report_own p d frames = (unfold pair_frames in refl)
 report_own p d correlation = (unfold pair_correlation in refl)
 report_own p d Steps.finished = (unfold pair_finished in refl)
@@ -172,7 +172,7 @@ pub record Refuses (n : ℕ) (w : PairWorld) (s : PairStep) : Type 0 where
 
 report_unknown : (p : Pair) (r : OwnReport) → refusal_of (own_reported p unknown r) ≡ no_such_channel
 report_unknown p region = (unfold pair_region in refl)
-report_unknown p beyond_ceiling = (unfold pair_beyond_ceiling in refl)
+report_unknown p beyond_ceiling_report = (unfold pair_beyond_ceiling in refl)
 report_unknown p frames = (unfold pair_frames in refl)
 report_unknown p correlation = (unfold pair_correlation in refl)
 report_unknown p Steps.finished = (unfold pair_finished in refl)

@@ -16,7 +16,7 @@ use Rattle.scan.specs.declared.Found.TheVariants.{Nothing}
 use Rattle.scan_pair.specs.declared.Channel.{Channel}
 use Rattle.scan_pair.specs.State.{named, new_channel, PairWorld}
 use Rattle.scan_pair.specs.Calls.{pair_making_refusal, pair_made, pair_reset_refusal, pair_reset, pair_far, pair_rearmed, pair_frames, pair_bin_samples}
-use Rattle.scan_pair.specs.Steps.{rearm, frames, ask, PairCall, on, far, reset, settings, bin_samples, own_called, pair_called, pair_making}
+use Rattle.scan_pair.specs.Steps.{rearm, frames, ask, PairCall, on, far, reset, settings, bin_samples_report, own_called, pair_called, pair_making}
 use mathlib.Core.Bool.{false}
 
 -- frames banked below 4, is the rule that this channel breaks
@@ -56,7 +56,7 @@ broken_shows : (refusal half (on 1 rearm) ≡ 3) × (refusal half (on 1 (ask fra
 unfolding pair_called own_called named pair_rearmed rearmed pair_frames frames_of counted clear_refusal report_refusal first_refusals keeps_rules far_rule near_rule verdict_rule in_table geometry_of same_geometry zeros table pick
 broken_shows = (refl, refl)
 
-broken_hidden : (refusal half (on 0 rearm) ≡ 0) × (refusal half (on 0 (ask frames)) ≡ 0) × (refusal half (far (zero64 ∷ [])) ≡ 0) × (refusal half (settings bin_samples) ≡ 0)
+broken_hidden : (refusal half (on 0 rearm) ≡ 0) × (refusal half (on 0 (ask frames)) ≡ 0) × (refusal half (far (zero64 ∷ [])) ≡ 0) × (refusal half (settings bin_samples_report) ≡ 0)
 unfolding pair_called own_called named pair_rearmed rearmed pair_frames frames_of counted pair_far pushed_far far_refusal all_finite hear_all pair_bin_samples bin_samples clear_refusal report_refusal first_refusals keeps_rules far_rule near_rule verdict_rule in_table geometry_of same_geometry zeros table pick
 broken_hidden = (refl, refl, refl, refl)
 

@@ -13,7 +13,7 @@ use Rattle.scan.specs.Streams.{Item, after, answers, heard, brought_by, FairCall
 use Rattle.scan.specs.declared.Scan.{Scan}
 use Rattle.scan.proofs.Scratch.{ScratchAlike, called_scratch}
 use Rattle.scan_pair.specs.State.{Side, first, second, Named, channel, unknown, named, PairWorld, seen}
-use Rattle.scan_pair.specs.Steps.{Own, near, score, rearm, discard, ask, PairCall, on, far, reset, settings, pair_called}
+use Rattle.scan_pair.specs.Steps.{Own, PairCall, on, far, reset, settings, pair_called}
 use Rattle.scan_pair.specs.Streams.{PairItem, own, foreign, pair_after, Share, its, others, own_share, share, with_answer, answers_to, PairF32Call, F32Items, NoReset, PairFair, with_item, items_of, pair_brought, pair_heard, with_clean, pair_cleaned, LateShare, PairLate}
 use Rattle.scan_pair.proofs.Together.{PairSound, reset_accepts}
 use Rattle.scan_pair.proofs.Steps.{alike_between, Stepped, fair_own, stepped, stays_sound}

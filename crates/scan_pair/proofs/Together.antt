@@ -32,7 +32,7 @@ use Rattle.scan.proofs.Accepted.{first_passed}
 use Rattle.scan.proofs.Contracts.{far_step, reset_step}
 use Rattle.scan_pair.specs.State.{Side, first, second, PairBuffers, PairWorld, chosen, pair_with_far, common, buffers_of, seen}
 use Rattle.scan_pair.specs.Calls.{PairRestart, both_anew, both_lengths, pair_making_refusal, pair_made, pair_reset_refusal, pair_reset, pair_far, pair_bin_samples, pair_ceiling_samples}
-use Rattle.scan_pair.specs.Steps.{Setting, bin_samples, ceiling_samples, far, reset, settings, as_setting, pair_step, setting_reported, with_pair_envelope, restart_step, pair_called, pair_making}
+use Rattle.scan_pair.specs.Steps.{Setting, bin_samples_report, ceiling_samples_report, far, reset, settings, as_setting, pair_step, setting_reported, with_pair_envelope, restart_step, pair_called, pair_making}
 use Rattle.scan_pair.specs.Streams.{PairAccepted}
 use Rattle.scan_pair.proofs.Common.{common_refusals, common_judges, channel_adds_none}
 use Rattle.scan_pair.proofs.Channels.{ByItsOwn}
@@ -89,8 +89,8 @@ unfolding pair_called report_refusal
 setting_judged slack w r = judged r ∙ common_judges w.pair true
   where
     judged : (r : Setting) → refusal_of (setting_reported w.pair r) ≡ report_refusal (common w.pair)
-    judged bin_samples = (unfold pair_bin_samples bin_samples in if_refused_case (λ (q : SamplesReport). refusal_of (base.reports_samples q) ≡ report_refusal (common w.pair)) (report_refusal (common w.pair)) _ _ (λ n. refl) (λ z. sym z))
-    judged ceiling_samples = (unfold pair_ceiling_samples ceiling_samples in if_refused_case (λ (q : SamplesReport). refusal_of (base.reports_samples q) ≡ report_refusal (common w.pair)) (report_refusal (common w.pair)) _ _ (λ n. refl) (λ z. sym z))
+    judged bin_samples_report = (unfold pair_bin_samples bin_samples in if_refused_case (λ (q : SamplesReport). refusal_of (base.reports_samples q) ≡ report_refusal (common w.pair)) (report_refusal (common w.pair)) _ _ (λ n. refl) (λ z. sym z))
+    judged ceiling_samples_report = (unfold pair_ceiling_samples ceiling_samples in if_refused_case (λ (q : SamplesReport). refusal_of (base.reports_samples q) ≡ report_refusal (common w.pair)) (report_refusal (common w.pair)) _ _ (λ n. refl) (λ z. sym z))
 
 module _ (slack : ℕ) (w : PairWorld) (d : Side) (h : keeps_rules (seen w d).scan ≡ true) where
   report_number : report_refusal (common w.pair) ≡ report_refusal (seen w d).scan
@@ -98,8 +98,8 @@ module _ (slack : ℕ) (w : PairWorld) (d : Side) (h : keeps_rules (seen w d).sc
   report_number = channel_adds_none w.pair (chosen w.pair d) h true
 
   setting_same : (r : Setting) → setting_reported w.pair r ≡ reported (seen w d).scan (as_setting r)
-  setting_same bin_samples = (unfold pair_bin_samples bin_samples in rw report_number)
-  setting_same ceiling_samples = (unfold pair_ceiling_samples ceiling_samples in rw report_number)
+  setting_same bin_samples_report = (unfold pair_bin_samples bin_samples in rw report_number)
+  setting_same ceiling_samples_report = (unfold pair_ceiling_samples ceiling_samples in rw report_number)
 
   pub setting_together : (r : Setting) → ByItsOwn d (pair_called slack w (settings r)) (called slack (seen w d) (deed (base.ask (as_setting r))))
   unfolding pair_called called

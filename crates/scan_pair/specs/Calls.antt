@@ -11,9 +11,7 @@ use Rattle.scan.specs.declared.Geometry.{Geometry}
 use Rattle.scan.specs.declared.Scan.{Scan}
 use Rattle.answers.specs.declared.Change.{Change}
 use Rattle.answers.specs.declared.Change.TheVariants as change
-use Rattle.scan.specs.declared.Taking.{Taking}
 use Rattle.scan.specs.declared.Taking.TheVariants as taking
-use Rattle.scan.specs.declared.Scoring.{Scoring}
 use Rattle.scan.specs.declared.Scoring.TheVariants as scoring
 use Rattle.scan.specs.declared.RegionReport.{RegionReport}
 use Rattle.scan.specs.declared.RegionReport.TheVariants as region

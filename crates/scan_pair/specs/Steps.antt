@@ -4,16 +4,16 @@ use Rattle.scan.specs.State.{Buffers}
 use Rattle.scan.specs.Steps.{Deed, Response, changes, takes, scores, reports_region, reports_flag, reports_count, reports_level, reports_samples, with_levels, with_lag_sums}
 use Rattle.scan.specs.Steps as base
 use Rattle.scan_pair.specs.declared.Pair.{Pair}
-use Rattle.scan_pair.specs.State.{first, second, Named, named, on_channel, PairBuffers, PairWorld, buffers_of, put_back}
+use Rattle.scan_pair.specs.State.{first, Named, named, on_channel, PairBuffers, PairWorld, buffers_of, put_back}
 use Rattle.scan_pair.specs.Calls.{PairRestart, pair_made, pair_reset, pair_far, pair_near, pair_observed, pair_rearmed, pair_discarded, pair_region, pair_beyond_ceiling, pair_frames, pair_correlation, pair_finished, pair_exhausted, pair_bin_samples, pair_ceiling_samples}
 
 -- ---- the calls
 
 pub data OwnReport : Type 0 where
-  region beyond_ceiling frames correlation finished exhausted : OwnReport
+  region beyond_ceiling_report frames correlation finished exhausted : OwnReport
 
 pub data Setting : Type 0 where
-  bin_samples ceiling_samples : Setting
+  bin_samples_report ceiling_samples_report : Setting
 
 -- what a channel is asked to do. "there is no reset of one"
 pub data Own : Type 0 where
@@ -32,15 +32,15 @@ pub data PairCall : Type 0 where
 
 abbrev pub as_report : OwnReport → base.Report
 as_report region = base.region
-as_report beyond_ceiling = base.beyond_ceiling
+as_report beyond_ceiling_report = base.beyond_ceiling_report
 as_report frames = base.frames
 as_report correlation = base.correlation
 as_report finished = base.finished
 as_report exhausted = base.exhausted
 
 abbrev pub as_setting : Setting → base.Report
-as_setting bin_samples = base.bin_samples
-as_setting ceiling_samples = base.ceiling_samples
+as_setting bin_samples_report = base.bin_samples_report
+as_setting ceiling_samples_report = base.ceiling_samples_report
 
 abbrev pub as_deed : Own → Deed
 as_deed (near x index) = base.near x index
@@ -60,15 +60,15 @@ pair_step a p b = record { response = a; world = record { pair = p; buffers = b 
 
 abbrev pub own_reported : Pair → Named → OwnReport → Response
 own_reported p n region = reports_region (pair_region p n)
-own_reported p n beyond_ceiling = reports_flag (pair_beyond_ceiling p n)
+own_reported p n beyond_ceiling_report = reports_flag (pair_beyond_ceiling p n)
 own_reported p n frames = reports_count (pair_frames p n)
 own_reported p n correlation = reports_level (pair_correlation p n)
 own_reported p n finished = reports_flag (pair_finished p n)
 own_reported p n exhausted = reports_flag (pair_exhausted p n)
 
 abbrev pub setting_reported : Pair → Setting → Response
-setting_reported p bin_samples = reports_samples (pair_bin_samples p)
-setting_reported p ceiling_samples = reports_samples (pair_ceiling_samples p)
+setting_reported p bin_samples_report = reports_samples (pair_bin_samples p)
+setting_reported p ceiling_samples_report = reports_samples (pair_ceiling_samples p)
 
 -- the buffers lent to a call: the named channel's. Where the number names none, whatever is lent is not looked at.
 abbrev pub lent_to : PairBuffers → Named → Buffers

@@ -1,6 +1,6 @@
 -- Each call by the number of the channel that it names, and a making and a reset with the refusal number n that the code found.
 use Prim.Native.Nat.{ℕ, ◌≤◌, ◌<◌}
-use mathlib.Core.Path.{◌≡◌, refl, sym, ap, ◌∙◌}
+use mathlib.Core.Path.{◌≡◌, sym, ap, ◌∙◌}
 use mathlib.Core.List.{List}
 use mathlib.Core.Bool.{Bool, true}
 use lib.Dec.{eqb}
@@ -22,7 +22,7 @@ use Rattle.scan_handover.specs.Handover.{NearRun, handed}
 use Rattle.scan_handover.specs.declared.RunTaking.TheVariants as run
 use Rattle.scan.proofs.Laws.{both_and, both_left, both_right, if_refused_none, if_refused_refused}
 use Rattle.scan.proofs.Accepted.{first_passed, follows_by}
-use Rattle.scan_pair.specs.State.{Side, first, second, Named, named, side_of, no_such_channel, on_channel, restarted, new_pair, as_scan, common}
+use Rattle.scan_pair.specs.State.{Side, Named, named, side_of, no_such_channel, on_channel, restarted, new_pair, as_scan, common}
 use Rattle.scan_pair.specs.Calls.{left_in, scan_of, PairClearing, pair_near, pair_observed, pair_rearmed, pair_discarded, restart_by, both_lengths, pair_making_refusal, pair_made, pair_reset_refusal, pair_reset}
 use Rattle.scan_pair.specs.declared.Pair.{Pair}
 use Rattle.scan_pair_calls.specs.Runs.{pair_handed}

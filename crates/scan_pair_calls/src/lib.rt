@@ -1,6 +1,8 @@
 // Two microphones, one loudspeaker (request n): the calls of a pair. Each takes a channel's scan out of the pair, makes the scan's own call, and puts back what that left.
 // No call has a `requires`; what each of them does is defined in crate scan_pair, and of a run in specs/Runs.
 // A call that names a channel which is not 0 or 1 is refused with 11, and nothing else is looked at.
+#![tactic(auto)]
+
 pub mod parts; // a channel's scan, out of the pair and back
 pub mod restart; // a making and a reset
 pub mod reports; // what a channel reports, and the settings
@@ -19,7 +21,7 @@ use scan_handover::RunTaking;
 use scan_pair::{NO_SUCH_CHANNEL, Pair, PairChanged, PairScored, PairTook};
 
 // Of a run: the state that comes back, with the answer.
-#[derive(Drop)]
+#[derive(Clone, Copy)]
 pub struct PairHanded {
     pub pair: Pair,
     pub answer: RunTaking,

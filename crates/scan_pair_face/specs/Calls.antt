@@ -1,6 +1,6 @@
 -- The pair's calls on the words that a host lends. A call of a channel writes that channel's words, a far push the far side's, a making and a reset all.
 use Rattle.std.specs.Prelude.{ℕ, Bool, true, List, [], ltb, Float}
-use Rattle.std.specs.Borrow.{Bor}
+use Rattle.std.specs.Borrow.{Bor, MutBor}
 use denote.Triple.Both.{Both}
 use Rattle.answers.specs.Refusals.{require}
 use Rattle.answers.specs.declared.Flag.{Flag}
@@ -30,7 +30,10 @@ judged_on c ws valuesFit = require (ltb c 2) no_such_channel (judged_pair ws val
 -- ---- lists as a contract has them: what stands in each at the call, and right after it
 
 abbrev pub Lent : Type 0
-Lent = Both (Bor (List Float)) (Bor (List Float))
+Lent = Both (MutBor (List Float)) (MutBor (List Float))
+
+abbrev pub OnlyRead : Type 0
+OnlyRead = Both (Bor (List Float)) (Bor (List Float))
 
 -- what a making and a reset are lent
 pub record PairHistory : Type 0 where
@@ -47,12 +50,12 @@ history_given envelope first_sums second_sums = pair_history envelope.entry.now 
 abbrev pub history_left : Lent → Lent → Lent → PairHistory
 history_left envelope first_sums second_sums = pair_history envelope.exit.now first_sums.exit.now second_sums.exit.now
 
-abbrev pub buffers_given : Lent → Lent → Lent → Lent → Lent → Lent → Lent → Buffers
+abbrev pub buffers_given : OnlyRead → OnlyRead → Lent → Lent → Lent → Lent → Lent → Buffers
 buffers_given envelope levels window prefix squares scores lag_sums =
     lent envelope.entry.now levels.entry.now window.entry.now prefix.entry.now squares.entry.now scores.entry.now lag_sums.entry.now
 
 -- envelope and levels are only read
-abbrev pub buffers_left : Lent → Lent → Lent → Lent → Lent → Lent → Lent → Buffers
+abbrev pub buffers_left : OnlyRead → OnlyRead → Lent → Lent → Lent → Lent → Lent → Buffers
 buffers_left envelope levels window prefix squares scores lag_sums =
     lent envelope.entry.now levels.entry.now window.exit.now prefix.exit.now squares.exit.now scores.exit.now lag_sums.exit.now
 

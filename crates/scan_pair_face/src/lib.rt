@@ -1,5 +1,7 @@
 // Two microphones, one loudspeaker (request n), on the words that a host lends. crates/scan_pair_words/specs/Layout.antt says where each field of the state stands; the lengths of
 // the lent lists are the scan's. A channel number that is not 0 or 1 is refused with 11 before anything else is looked at.
+#![tactic(auto)]
+
 ghost use Rattle.std.specs.Prelude.{◌≡◌};
 ghost use Rattle.scan_pair_words.specs.Layout.{pair_words};
 ghost use Rattle.scan_pair_face.specs.Calls.{judged_pair, judged_on, history_given, history_left, buffers_given, buffers_left, new_called, reset_called, rearm_called, discard_near_called, push_far_called, push_near_called, push_near_run_called, observe_called, bin_samples_called, ceiling_samples_called, frames_called, correlation_called, region_called, beyond_ceiling_called, finished_called, exhausted_called};

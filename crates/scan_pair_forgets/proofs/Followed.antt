@@ -1,5 +1,4 @@
 -- What happened is what the rules say: the calls of a program, each with its answer, are those calls as the rules answer them in turn.
-use Prim.Native.Nat.{ℕ}
 use mathlib.Core.Path.{◌≡◌, refl, sym, ap, ◌∙◌, subst}
 use mathlib.Core.List.{List, [], ◌∷◌, ◌++◌}
 use Rattle.scan.specs.Bins.{full_slack}

@@ -6,14 +6,13 @@ use native.Mathlib.Omega.{arith}
 use lib.ListN.{length}
 use Rattle.scan.specs.Bins.{full_slack}
 use Rattle.scan.specs.Steps.{Response, refusal_of}
-use Rattle.scan.specs.Streams.{from_these_alone}
-use Rattle.scan_pair.specs.State.{Side, other, PairWorld}
+use Rattle.scan_pair.specs.State.{Side, PairWorld}
 use Rattle.scan_pair.specs.Steps.{PairCall, PairStep, pair_called, pair_making}
-use Rattle.scan_pair.specs.Streams.{PairItem, own, share, with_answer, answers_to, pair_after, without, PairBegan, by_making, by_reset, PairFair, PairLate, rearm_of, pair_resumed, pair_facts_of, PairStream}
+use Rattle.scan_pair.specs.Streams.{share, with_answer, answers_to, pair_after, PairBegan, by_making, by_reset, PairFair, PairLate, rearm_of, pair_resumed, PairStream}
 use Rattle.scan_pair.proofs.Apart.{apart}
 use Rattle.scan_pair.proofs.Forgets.{pair_forgets}
 use Rattle.scan_pair_forgets.specs.Happened.{PairAnswered, one_pair, pair_by_rules, PairHappened, PairBegun, made, afresh}
-use Rattle.scan_pair_forgets.specs.Statement.{items_in, answers_of, PairRan, CodeApart, PairCodeForgets}
+use Rattle.scan_pair_forgets.specs.Statement.{items_in, answers_of, CodeApart, PairCodeForgets}
 use Rattle.scan_pair_forgets.proofs.Made.{new_steps}
 use Rattle.scan_pair_forgets.proofs.Runs.{after_calls}
 use Rattle.scan_pair_forgets.proofs.Followed.{Followed, followed, in_turn}

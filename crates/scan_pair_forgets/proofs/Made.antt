@@ -1,15 +1,12 @@
 -- Whatever a function's own contract admits is the step of `pair_called` for that call, and a making is `pair_making`.
-use Prim.Native.Nat.{ℕ}
-use mathlib.Core.Path.{◌≡◌, sym, ap, ◌∙◌}
-use mathlib.Core.List.{List}
-use lib.Ieee.{Float}
+use mathlib.Core.Path.{◌≡◌, sym, ◌∙◌}
 use Rattle.scan.specs.Bins.{full_slack}
 use Rattle.scan.specs.Steps.{changes, takes, scores, reports_count, reports_flag, reports_level, reports_region, reports_samples, with_levels, with_lag_sums}
 use Rattle.scan_score.specs.Observing.{lent}
 use Rattle.scan_forgets.specs.Happened.{Return}
 use Rattle.scan_pair.specs.State.{named, PairBuffers, PairWorld}
-use Rattle.scan_pair.specs.Calls.{PairRestart, pair_made, pair_reset, pair_far, pair_near, pair_observed, pair_rearmed, pair_discarded, pair_region, pair_beyond_ceiling, pair_frames, pair_correlation, pair_finished, pair_exhausted, pair_bin_samples, pair_ceiling_samples}
-use Rattle.scan_pair.specs.Steps.{region, beyond_ceiling, frames, correlation, finished, exhausted, bin_samples, ceiling_samples, near, score, rearm, discard, ask, on, far, reset, settings, PairStep, pair_step, own_called, pair_called, pair_making, with_pair_envelope, lent_to, handed_back, restart_step}
+use Rattle.scan_pair.specs.Calls.{pair_made, pair_reset, pair_far, pair_near, pair_observed, pair_rearmed, pair_discarded, pair_region, pair_beyond_ceiling, pair_frames, pair_correlation, pair_finished, pair_exhausted, pair_bin_samples, pair_ceiling_samples}
+use Rattle.scan_pair.specs.Steps.{region, beyond_ceiling_report, frames, correlation, finished, exhausted, bin_samples_report, ceiling_samples_report, near, score, rearm, discard, ask, on, far, reset, settings, pair_step, own_called, pair_called, pair_making, with_pair_envelope, lent_to, handed_back, restart_step}
 use Rattle.scan_pair_calls.proofs.push_far.Kinds as push-far-kinds
 use Rattle.scan_pair_calls.proofs.push_far.Reads as push-far-reads
 use Rattle.scan_pair_calls.proofs.push_near.Kinds as push-near-kinds
@@ -108,7 +105,7 @@ region_steps f w s =
     λ i. pair_step (reports_region (a i)) w.pair w.buffers
 
 pub beyond_ceiling_steps : (f : Return 0 beyond-ceiling-kinds.ps beyond-ceiling-kinds.r beyond-ceiling-reads.Post) (w : PairWorld) → w.pair ≡ f.given.0
-    → pair_step (reports_flag f.result) w.pair w.buffers ≡ pair_called full_slack w (on f.given.1.0 (ask beyond_ceiling))
+    → pair_step (reports_flag f.result) w.pair w.buffers ≡ pair_called full_slack w (on f.given.1.0 (ask beyond_ceiling_report))
 unfolding pair_called own_called
 beyond_ceiling_steps f w s =
     let a = f.admitted ∙ (λ i. pair_beyond_ceiling (sym s i) (named f.given.1.0)) in
@@ -143,14 +140,14 @@ exhausted_steps f w s =
     λ i. pair_step (reports_flag (a i)) w.pair w.buffers
 
 pub bin_samples_steps : (f : Return 0 bin-samples-kinds.ps bin-samples-kinds.r bin-samples-reads.Post) (w : PairWorld) → w.pair ≡ f.given.0
-    → pair_step (reports_samples f.result) w.pair w.buffers ≡ pair_called full_slack w (settings bin_samples)
+    → pair_step (reports_samples f.result) w.pair w.buffers ≡ pair_called full_slack w (settings bin_samples_report)
 unfolding pair_called
 bin_samples_steps f w s =
     let a = f.admitted ∙ (λ i. pair_bin_samples (sym s i)) in
     λ i. pair_step (reports_samples (a i)) w.pair w.buffers
 
 pub ceiling_samples_steps : (f : Return 0 ceiling-samples-kinds.ps ceiling-samples-kinds.r ceiling-samples-reads.Post) (w : PairWorld) → w.pair ≡ f.given.0
-    → pair_step (reports_samples f.result) w.pair w.buffers ≡ pair_called full_slack w (settings ceiling_samples)
+    → pair_step (reports_samples f.result) w.pair w.buffers ≡ pair_called full_slack w (settings ceiling_samples_report)
 unfolding pair_called
 ceiling_samples_steps f w s =
     let a = f.admitted ∙ (λ i. pair_ceiling_samples (sym s i)) in

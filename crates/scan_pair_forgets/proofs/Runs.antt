@@ -1,8 +1,7 @@
 -- A run of near samples on a channel is so many single pushes of that channel: they leave what the run left.
 use Prim.Native.Nat.{ℕ, ◌+◌}
-use mathlib.Core.Path.{◌≡◌, refl, sym, ap, ◌∙◌, subst}
+use mathlib.Core.Path.{◌≡◌, refl, sym, ap, ◌∙◌}
 use mathlib.Core.List.{List, [], ◌∷◌}
-use mathlib.Core.Bool.{true, false}
 use lib.Dec.{T, eqb}
 use lib.ListN.{take}
 use lib.Ieee.{Float, binary64, fits}
@@ -12,7 +11,7 @@ use Rattle.scan.specs.Bins.{full_slack}
 use Rattle.scan.specs.State.{World}
 use Rattle.scan.specs.Steps.{Deed, deed, called, with_levels}
 use Rattle.scan.specs.Steps as base
-use Rattle.scan.specs.Streams.{AllF32, Item, after}
+use Rattle.scan.specs.Streams.{AllF32, after}
 use Rattle.scan_handover.specs.Handover.{NearRun, run_refusal, handed}
 use Rattle.scan_handover.specs.Singles.{taken_in}
 use Rattle.scan_handover.specs.InStreams.{as_items, after_run}
@@ -22,7 +21,7 @@ use Rattle.scan_pair.specs.State.{Side, first, second, Named, channel, unknown, 
 use Rattle.scan_pair.specs.Calls.{pair_near}
 use Rattle.scan_pair.specs.Steps.{near, PairCall, on, own_called, pair_called, lent_to, handed_back}
 use Rattle.scan_pair.proofs.Channels.{leaves, by_its_own}
-use Rattle.scan_pair_calls.specs.Runs.{PairRun, pair_handed}
+use Rattle.scan_pair_calls.specs.Runs.{pair_handed}
 use Rattle.scan_pair_calls.proofs.push_near_run.Kinds as push-near-run-kinds
 use Rattle.scan_pair_calls.proofs.push_near_run.Reads as push-near-run-reads
 use Rattle.scan_forgets.specs.Happened.{Return}

@@ -10,7 +10,7 @@ use Rattle.scan_score.specs.Observing.{lent}
 use Rattle.scan_handover.specs.Singles.{taken_in}
 use Rattle.scan_forgets.specs.Happened.{Return}
 use Rattle.scan_pair.specs.State.{Side, named, PairBuffers, PairWorld, seen}
-use Rattle.scan_pair.specs.Steps.{region, beyond_ceiling, frames, correlation, finished, exhausted, bin_samples, ceiling_samples, near, score, rearm, discard, ask, PairCall, on, far, reset, settings, pair_called, with_pair_envelope, lent_to, handed_back, restart_step}
+use Rattle.scan_pair.specs.Steps.{region, beyond_ceiling_report, frames, correlation, finished, exhausted, bin_samples_report, ceiling_samples_report, near, score, rearm, discard, ask, PairCall, on, far, reset, settings, pair_called, with_pair_envelope, lent_to, handed_back, restart_step}
 use Rattle.scan_pair.specs.declared.Pair.{Pair}
 use Rattle.scan_pair_calls.proofs.push_far.Kinds as push-far-kinds
 use Rattle.scan_pair_calls.proofs.push_far.Reads as push-far-reads
@@ -91,7 +91,7 @@ pub data PairHappened : PairWorld → List PairAnswered → PairWorld → Type 0
   by_region : (f : Return 0 region-kinds.ps region-kinds.r region-reads.Post) (w : PairWorld) → w.pair ≡ f.given.0
       → PairHappened w (one_pair w (on f.given.1.0 (ask region)) (reports_region f.result)) (w)
   by_beyond_ceiling : (f : Return 0 beyond-ceiling-kinds.ps beyond-ceiling-kinds.r beyond-ceiling-reads.Post) (w : PairWorld) → w.pair ≡ f.given.0
-      → PairHappened w (one_pair w (on f.given.1.0 (ask beyond_ceiling)) (reports_flag f.result)) (w)
+      → PairHappened w (one_pair w (on f.given.1.0 (ask beyond_ceiling_report)) (reports_flag f.result)) (w)
   by_frames : (f : Return 0 frames-kinds.ps frames-kinds.r frames-reads.Post) (w : PairWorld) → w.pair ≡ f.given.0
       → PairHappened w (one_pair w (on f.given.1.0 (ask frames)) (reports_count f.result)) (w)
   by_correlation : (f : Return 0 correlation-kinds.ps correlation-kinds.r correlation-reads.Post) (w : PairWorld) → w.pair ≡ f.given.0
@@ -101,9 +101,9 @@ pub data PairHappened : PairWorld → List PairAnswered → PairWorld → Type 0
   by_exhausted : (f : Return 0 exhausted-kinds.ps exhausted-kinds.r exhausted-reads.Post) (w : PairWorld) → w.pair ≡ f.given.0
       → PairHappened w (one_pair w (on f.given.1.0 (ask exhausted)) (reports_flag f.result)) (w)
   by_bin_samples : (f : Return 0 bin-samples-kinds.ps bin-samples-kinds.r bin-samples-reads.Post) (w : PairWorld) → w.pair ≡ f.given.0
-      → PairHappened w (one_pair w (settings bin_samples) (reports_samples f.result)) (w)
+      → PairHappened w (one_pair w (settings bin_samples_report) (reports_samples f.result)) (w)
   by_ceiling_samples : (f : Return 0 ceiling-samples-kinds.ps ceiling-samples-kinds.r ceiling-samples-reads.Post) (w : PairWorld) → w.pair ≡ f.given.0
-      → PairHappened w (one_pair w (settings ceiling_samples) (reports_samples f.result)) (w)
+      → PairHappened w (one_pair w (settings ceiling_samples_report) (reports_samples f.result)) (w)
 
 -- ---- calls in turn
 

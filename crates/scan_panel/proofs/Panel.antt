@@ -16,7 +16,7 @@ use Rattle.scan.specs.Bins.{in_table, geometry_of, envelope_len, near_len, windo
 use Rattle.scan.specs.State.{Buffers, World, new_scan}
 use Rattle.scan.specs.Calls.{Restart, made, making_refusal}
 use Rattle.scan.specs.Steps
-use Rattle.scan.specs.Steps.{Report, bin_samples, ceiling_samples, region, beyond_ceiling, frames, correlation, exhausted, near, score, rearm, discard, reset, ask, Call, far, deed, refusal_of, changes, Step, reported, called, making}
+use Rattle.scan.specs.Steps.{Report, bin_samples_report, ceiling_samples_report, region, beyond_ceiling_report, frames, correlation, exhausted, near, score, rearm, discard, reset, ask, Call, far, deed, refusal_of, changes, Step, reported, called, making}
 use Rattle.scan.specs.declared.Scan.{Scan}
 use Rattle.scan_handover.specs.Handover.{handed, unchanged}
 use Rattle.scan_handover.specs.declared.RunTaking.TheVariants as run
@@ -86,10 +86,10 @@ panel_fits rate ceiling t = go p.rates
 
 -- a report of allowed settings is the scan's
 panel_reported_lem : (w : World) (r : Report) → allows w.scan ≡ true → panel_reported w.scan r ≡ reported w.scan r
-panel_reported_lem w bin_samples t = (unfold panel_bin_samples pick in rw t)
-panel_reported_lem w ceiling_samples t = (unfold panel_ceiling_samples pick in rw t)
+panel_reported_lem w bin_samples_report t = (unfold panel_bin_samples pick in rw t)
+panel_reported_lem w ceiling_samples_report t = (unfold panel_ceiling_samples pick in rw t)
 panel_reported_lem w region t = (unfold panel_region_of pick in rw t)
-panel_reported_lem w beyond_ceiling t = (unfold panel_beyond_ceiling pick in rw t)
+panel_reported_lem w beyond_ceiling_report t = (unfold panel_beyond_ceiling pick in rw t)
 panel_reported_lem w frames t = (unfold panel_frames_of pick in rw t)
 panel_reported_lem w correlation t = (unfold panel_correlation_of pick in rw t)
 panel_reported_lem w Steps.finished t = (unfold panel_is_finished pick in rw t)
@@ -119,10 +119,10 @@ pub record Refused (w : World) (s : Step) : Type 0 where
   pub world : s.world ≡ w
 
 report_refused : (w : World) (r : Report) → allows w.scan ≡ false → refusal_of (panel_reported w.scan r) ≡ outside_table
-report_refused w bin_samples t = (unfold panel_bin_samples pick in rw t)
-report_refused w ceiling_samples t = (unfold panel_ceiling_samples pick in rw t)
+report_refused w bin_samples_report t = (unfold panel_bin_samples pick in rw t)
+report_refused w ceiling_samples_report t = (unfold panel_ceiling_samples pick in rw t)
 report_refused w region t = (unfold panel_region_of pick in rw t)
-report_refused w beyond_ceiling t = (unfold panel_beyond_ceiling pick in rw t)
+report_refused w beyond_ceiling_report t = (unfold panel_beyond_ceiling pick in rw t)
 report_refused w frames t = (unfold panel_frames_of pick in rw t)
 report_refused w correlation t = (unfold panel_correlation_of pick in rw t)
 report_refused w Steps.finished t = (unfold panel_is_finished pick in rw t)

@@ -12,7 +12,7 @@ use Rattle.answers.specs.declared.Flag.TheVariants as flag
 use Rattle.scan.specs.Bins.{geometry_of, envelope_len, near_len, window_len, prefix_len, lags}
 use Rattle.scan.specs.State.{Buffers, World, new_scan}
 use Rattle.scan.specs.Calls.{Restart, restart, zeroed, restart_lengths, changed_by, FarPush, NearPush, untaken, Observation, Clearing, was_reset, pushed_far, pushed_near, observed, rearmed, discarded, bin_samples, ceiling_samples, region_of, beyond_ceiling, is_finished, is_exhausted, frames_of, correlation_of}
-use Rattle.scan.specs.Steps.{Report, bin_samples, ceiling_samples, region, beyond_ceiling, frames, correlation, finished, exhausted, near, score, rearm, discard, reset, ask, Call, far, deed, Response, changes, takes, scores, reports_region, reports_flag, reports_count, reports_level, reports_samples, Step, step, with_envelope, with_levels, with_lag_sums}
+use Rattle.scan.specs.Steps.{Report, bin_samples_report, ceiling_samples_report, region, beyond_ceiling_report, frames, correlation, finished, exhausted, near, score, rearm, discard, reset, ask, Call, far, deed, Response, changes, takes, scores, reports_region, reports_flag, reports_count, reports_level, reports_samples, Step, step, with_envelope, with_levels, with_lag_sums}
 use Rattle.scan_words.specs.Layout.{scan_words}
 use Rattle.scan_handover.specs.Handover.{NearRun, handed, unchanged}
 use Rattle.scan_handover.specs.declared.RunTaking.TheVariants as run
@@ -122,10 +122,10 @@ unfoldable pub panel_is_exhausted : Scan → Flag
 panel_is_exhausted s = panelled s (flag.Refused outside_table) (is_exhausted s)
 
 abbrev pub panel_reported : Scan → Report → Response
-panel_reported s bin_samples = reports_samples (panel_bin_samples s)
-panel_reported s ceiling_samples = reports_samples (panel_ceiling_samples s)
+panel_reported s bin_samples_report = reports_samples (panel_bin_samples s)
+panel_reported s ceiling_samples_report = reports_samples (panel_ceiling_samples s)
 panel_reported s region = reports_region (panel_region_of s)
-panel_reported s beyond_ceiling = reports_flag (panel_beyond_ceiling s)
+panel_reported s beyond_ceiling_report = reports_flag (panel_beyond_ceiling s)
 panel_reported s frames = reports_count (panel_frames_of s)
 panel_reported s correlation = reports_level (panel_correlation_of s)
 panel_reported s finished = reports_flag (panel_is_finished s)

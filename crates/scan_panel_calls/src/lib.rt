@@ -1,5 +1,7 @@
 // The calls of the wall panel's profile (request j). Each refuses, with 1 and before all else, what the profile does not allow, and else is the scan's own call at the profile's slack.
 // No call has a `requires`; what each of them does is defined in crate scan_panel. `reports` has the calls that only report.
+#![tactic(auto)]
+
 pub mod profile; // what the profile allows
 mod made; // what a making returns
 pub mod reports; // what a scan reports

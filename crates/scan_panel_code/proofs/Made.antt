@@ -5,7 +5,7 @@ use mathlib.Core.List.{List}
 use lib.Ieee.{Float}
 use Rattle.scan.specs.State.{Buffers, World}
 use Rattle.scan.specs.Calls.{Observation, FarPush, NearPush, Clearing, Restart}
-use Rattle.scan.specs.Steps.{Report, Response, near, score, rearm, discard, reset, ask, far, deed, step, reports_count, reports_flag, reports_level, reports_region, reports_samples, bin_samples, ceiling_samples, region, beyond_ceiling, frames, correlation, finished, exhausted}
+use Rattle.scan.specs.Steps.{Report, Response, near, score, rearm, discard, reset, ask, far, deed, step, reports_count, reports_flag, reports_level, reports_region, reports_samples, bin_samples_report, ceiling_samples_report, region, beyond_ceiling_report, frames, correlation, finished, exhausted}
 use Rattle.scan.proofs.Contracts.{far_step, near_step, score_step, clear_step, reset_step}
 use Rattle.scan.specs.declared.Changed.{Changed}
 use Rattle.scan.specs.declared.Took.{Took}
@@ -133,17 +133,17 @@ new_steps f b e l = making_called f.given.0 f.given.1.0 b _ (rw (e, l) (restart_
 
 -- ---- reports
 
-pub bin_samples_steps : (f : Return 0 bin-samples-kinds.ps bin-samples-kinds.r bin-samples-reads.Post) (w : World) → w.scan ≡ f.given.0 → step (reports_samples f.result) w.scan w.buffers ≡ panel_called w (deed (ask bin_samples))
-bin_samples_steps f w s = report_called_lem w bin_samples _ (rw s (ap reports_samples f.admitted))
+pub bin_samples_steps : (f : Return 0 bin-samples-kinds.ps bin-samples-kinds.r bin-samples-reads.Post) (w : World) → w.scan ≡ f.given.0 → step (reports_samples f.result) w.scan w.buffers ≡ panel_called w (deed (ask bin_samples_report))
+bin_samples_steps f w s = report_called_lem w bin_samples_report _ (rw s (ap reports_samples f.admitted))
 
-pub ceiling_samples_steps : (f : Return 0 ceiling-samples-kinds.ps ceiling-samples-kinds.r ceiling-samples-reads.Post) (w : World) → w.scan ≡ f.given.0 → step (reports_samples f.result) w.scan w.buffers ≡ panel_called w (deed (ask ceiling_samples))
-ceiling_samples_steps f w s = report_called_lem w ceiling_samples _ (rw s (ap reports_samples f.admitted))
+pub ceiling_samples_steps : (f : Return 0 ceiling-samples-kinds.ps ceiling-samples-kinds.r ceiling-samples-reads.Post) (w : World) → w.scan ≡ f.given.0 → step (reports_samples f.result) w.scan w.buffers ≡ panel_called w (deed (ask ceiling_samples_report))
+ceiling_samples_steps f w s = report_called_lem w ceiling_samples_report _ (rw s (ap reports_samples f.admitted))
 
 pub region_steps : (f : Return 0 region-kinds.ps region-kinds.r region-reads.Post) (w : World) → w.scan ≡ f.given.0 → step (reports_region f.result) w.scan w.buffers ≡ panel_called w (deed (ask region))
 region_steps f w s = report_called_lem w region _ (rw s (ap reports_region f.admitted))
 
-pub beyond_ceiling_steps : (f : Return 0 beyond-ceiling-kinds.ps beyond-ceiling-kinds.r beyond-ceiling-reads.Post) (w : World) → w.scan ≡ f.given.0 → step (reports_flag f.result) w.scan w.buffers ≡ panel_called w (deed (ask beyond_ceiling))
-beyond_ceiling_steps f w s = report_called_lem w beyond_ceiling _ (rw s (ap reports_flag f.admitted))
+pub beyond_ceiling_steps : (f : Return 0 beyond-ceiling-kinds.ps beyond-ceiling-kinds.r beyond-ceiling-reads.Post) (w : World) → w.scan ≡ f.given.0 → step (reports_flag f.result) w.scan w.buffers ≡ panel_called w (deed (ask beyond_ceiling_report))
+beyond_ceiling_steps f w s = report_called_lem w beyond_ceiling_report _ (rw s (ap reports_flag f.admitted))
 
 pub frames_steps : (f : Return 0 frames-kinds.ps frames-kinds.r frames-reads.Post) (w : World) → w.scan ≡ f.given.0 → step (reports_count f.result) w.scan w.buffers ≡ panel_called w (deed (ask frames))
 frames_steps f w s = report_called_lem w frames _ (rw s (ap reports_count f.admitted))

@@ -3,7 +3,7 @@
 use Rattle.std.specs.Prelude.{ℕ, ◌≡◌, List, [], ◌∷◌}
 use Rattle.answers.specs.Refusals.{none}
 use Rattle.scan.specs.State.{Buffers, World}
-use Rattle.scan.specs.Steps.{Call, Response, near, score, rearm, discard, reset, ask, far, deed, refusal_of, changes, takes, scores, reports_count, reports_flag, reports_level, reports_region, reports_samples, bin_samples, ceiling_samples, region, beyond_ceiling, frames, correlation, finished, exhausted, with_envelope, with_levels, with_lag_sums}
+use Rattle.scan.specs.Steps.{Call, Response, near, score, rearm, discard, reset, ask, far, deed, refusal_of, changes, takes, scores, reports_count, reports_flag, reports_level, reports_region, reports_samples, bin_samples_report, ceiling_samples_report, region, beyond_ceiling_report, frames, correlation, finished, exhausted, with_envelope, with_levels, with_lag_sums}
 use Rattle.scan_score.specs.Observing.{world, lent}
 use Rattle.scan_forgets.specs.Happened.{Return, one, Happened}
 use Rattle.scan_handover.specs.declared.RunTaking.TheVariants as taking
@@ -67,10 +67,10 @@ pub data PanelHappened : World → Fed → Answer → World → Type 0 where
       → PanelHappened w (call (deed discard)) (says (changes f.result.answer)) (world f.result.scan (with_lag_sums w.buffers f.left.1.0.now))
   by_reset_call : (f : Return 2 reset-kinds.ps reset-kinds.r reset-reads.Post) (w : World) → w.scan ≡ f.given.0 → w.buffers.envelope ≡ f.given.1.0.now → w.buffers.lag_sums ≡ f.given.1.1.0.now
       → PanelHappened w (call (deed reset)) (says (changes f.result.answer)) (world f.result.scan (with_lag_sums (with_envelope w.buffers f.left.1.0.now) f.left.1.1.0.now))
-  by_bin_samples : (f : Return 0 bin-samples-kinds.ps bin-samples-kinds.r bin-samples-reads.Post) (w : World) → w.scan ≡ f.given.0 → PanelHappened w (call (deed (ask bin_samples))) (says (reports_samples f.result)) w
-  by_ceiling_samples : (f : Return 0 ceiling-samples-kinds.ps ceiling-samples-kinds.r ceiling-samples-reads.Post) (w : World) → w.scan ≡ f.given.0 → PanelHappened w (call (deed (ask ceiling_samples))) (says (reports_samples f.result)) w
+  by_bin_samples : (f : Return 0 bin-samples-kinds.ps bin-samples-kinds.r bin-samples-reads.Post) (w : World) → w.scan ≡ f.given.0 → PanelHappened w (call (deed (ask bin_samples_report))) (says (reports_samples f.result)) w
+  by_ceiling_samples : (f : Return 0 ceiling-samples-kinds.ps ceiling-samples-kinds.r ceiling-samples-reads.Post) (w : World) → w.scan ≡ f.given.0 → PanelHappened w (call (deed (ask ceiling_samples_report))) (says (reports_samples f.result)) w
   by_region : (f : Return 0 region-kinds.ps region-kinds.r region-reads.Post) (w : World) → w.scan ≡ f.given.0 → PanelHappened w (call (deed (ask region))) (says (reports_region f.result)) w
-  by_beyond_ceiling : (f : Return 0 beyond-ceiling-kinds.ps beyond-ceiling-kinds.r beyond-ceiling-reads.Post) (w : World) → w.scan ≡ f.given.0 → PanelHappened w (call (deed (ask beyond_ceiling))) (says (reports_flag f.result)) w
+  by_beyond_ceiling : (f : Return 0 beyond-ceiling-kinds.ps beyond-ceiling-kinds.r beyond-ceiling-reads.Post) (w : World) → w.scan ≡ f.given.0 → PanelHappened w (call (deed (ask beyond_ceiling_report))) (says (reports_flag f.result)) w
   by_frames : (f : Return 0 frames-kinds.ps frames-kinds.r frames-reads.Post) (w : World) → w.scan ≡ f.given.0 → PanelHappened w (call (deed (ask frames))) (says (reports_count f.result)) w
   by_correlation : (f : Return 0 correlation-kinds.ps correlation-kinds.r correlation-reads.Post) (w : World) → w.scan ≡ f.given.0 → PanelHappened w (call (deed (ask correlation))) (says (reports_level f.result)) w
   by_finished : (f : Return 0 finished-kinds.ps finished-kinds.r finished-reads.Post) (w : World) → w.scan ≡ f.given.0 → PanelHappened w (call (deed (ask finished))) (says (reports_flag f.result)) w

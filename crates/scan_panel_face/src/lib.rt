@@ -1,5 +1,7 @@
 // The calls of the wall panel's profile (request j) on the words that a host lends: the scan's own layout, crates/scan_words/specs/Layout.antt. All lengths but the far envelope's are the scan's.
 // The reports are in crate scan_panel_reports_face.
+#![tactic(auto)]
+
 ghost use Rattle.std.specs.Prelude.{◌≡◌};
 ghost use Rattle.scan.specs.Bins.{geometry_of, envelope_len};
 ghost use Rattle.scan_panel.specs.Panel.{panel_slack};

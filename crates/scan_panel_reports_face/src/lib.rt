@@ -1,4 +1,6 @@
 // What a scan of the wall panel's profile (request j) reports, on the words that a host lends. The profile's other calls are in crate scan_panel_face.
+#![tactic(auto)]
+
 ghost use Rattle.std.specs.Prelude.{◌≡◌};
 ghost use Rattle.scan_panel_reports_face.specs.Calls.{panel_bin_samples_called, panel_ceiling_samples_called, panel_frames_called, panel_correlation_called, panel_region_called, panel_beyond_ceiling_called, panel_finished_called, panel_exhausted_called};
 

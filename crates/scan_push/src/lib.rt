@@ -1,5 +1,7 @@
 // How far and near samples become levels: the two pushes. No call has a `requires`; what each of them does is defined in crate scan.
 // The modules have the functions behind the calls.
+#![tactic(auto)]
+
 pub mod level; // a block's level
 pub mod sums; // sums of absolute values, for far pushes and runs of near samples
 pub mod far; // a push of far samples

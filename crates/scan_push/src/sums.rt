@@ -21,7 +21,7 @@ pub fn run(start: f64, samples: &[f32], from: usize, n: usize) -> f64
     sum
 }
 
-#[derive(Drop)]
+#[derive(Clone, Copy)]
 pub struct TwoSums {
     pub first: f64,
     pub second: f64,
@@ -60,7 +60,7 @@ pub fn two(start: f64, samples: &[f32], m: usize) -> TwoSums
     }
 }
 
-#[derive(Drop)]
+#[derive(Clone, Copy)]
 pub struct FourSums {
     pub first: f64,
     pub second: f64,

@@ -9,7 +9,7 @@ use Rattle.folds.specs.Sums.{at}
 use Rattle.scan.specs.Bins.{near_len}
 use Rattle.scan.specs.State.{finished, full, due, first_refusals}
 use Rattle.scan.specs.Blocks.{Seen, dropped, held_at}
-use Rattle.scan.specs.Calls.{NearPush, near_refusal, pushed_near, with_near}
+use Rattle.scan.specs.Calls.{NearPush, near_refusal, with_near}
 use Rattle.scan.specs.declared.Near.{Near}
 use Rattle.scan.specs.declared.Scan.{Scan}
 use Rattle.scan_push.proofs.Calls.{not_taken, is_ignored}

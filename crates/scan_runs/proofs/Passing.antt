@@ -1,5 +1,5 @@
 -- One sample of a run: whether it passes, and what it leaves.
-use Rattle.std.proofs.Common.{◌≡◌, ℕ, ◌+◌, ◌*◌, ◌/◌, ◌<◌, ◌≤◌, Bool, true, false, not, eqb, ltb, leb, List, ◌∷◌, length, set, sym, refl, ap, ◌∙◌, subst, true≢false, div-mul-le_self, arith, length-set, ltb-true, lt-ltb, eq-eqb, ne_eqb, eqb-true, le-leb, leb-true}
+use Rattle.std.proofs.Common.{◌≡◌, ℕ, ◌+◌, ◌*◌, ◌<◌, Bool, true, false, not, eqb, ltb, leb, List, ◌∷◌, length, sym, refl, ap, ◌∙◌, div-mul-le_self, arith, length-set, ltb-true, lt-ltb, eq-eqb, ne_eqb, eqb-true, le-leb, leb-true}
 use mathlib.Core.Bool.{false≢true}
 use lib.Ieee.{Float}
 use lib.Ieee.Scale.{finite}
@@ -15,18 +15,16 @@ use Rattle.scan.specs.Blocks.{Seen, gather, dropped, hole, held_at, first_bin}
 use Rattle.scan.specs.Calls.{NearPush, near_refusal, untaken, taken_by, with_near, pushed_near}
 use Rattle.scan.specs.declared.Geometry.{Geometry}
 use Rattle.scan.specs.declared.Near.{Near}
-use Rattle.scan.specs.declared.Verdict.{Verdict}
 use Rattle.scan.specs.declared.Scan.{Scan}
-use Rattle.scan.specs.declared.Taking.{Taking}
 use Rattle.scan.specs.declared.Taking.TheVariants as taking
 use Rattle.scan.proofs.Laws.{both_and, either_or}
 use Rattle.scan.proofs.Held.{Placed, held_next, held_under_way, block_placed, stands}
 use Rattle.scan_calls.specs.Bounds.{Bounds}
 use Rattle.scan_calls.proofs.Chains.{first, second}
-use Rattle.scan_calls.proofs.Passing.{pass, bounds, due_is}
+use Rattle.scan_calls.proofs.Passing.{bounds, due_is}
 use Rattle.scan_push.specs.Ready.{Gathers}
 use Rattle.scan_push.proofs.Pushing.{held_below}
-use Rattle.scan_runs.specs.Runs.{Run, passes, rests, further, ran}
+use Rattle.scan_runs.specs.Runs.{passes, rests, further, ran}
 use Rattle.scan_runs.specs.Ready.{fills, passable, after_sample, Open}
 
 -- ---- a state that keeps its rules, but for the running sum, which is tested at each sample; it is not finished, and no full frame waits

@@ -1,8 +1,8 @@
 -- Samples that go on with a block, summed at once: where the sum is finite each of them passes.
-use Rattle.std.proofs.Common.{◌≡◌, ℕ, zero, suc, ◌+◌, ◌-◌, ◌*◌, ◌<◌, ◌≤◌, Bool, true, false, not, eqb, ltb, List, [], ◌∷◌, ◌++◌, length, drop, sym, refl, ap, ◌∙◌, subst, add-zero, zero-add, add-one, arith, drop_of_length-le, drop-cons, lt-ltb, eq-eqb, ne_eqb}
+use Rattle.std.proofs.Common.{◌≡◌, ℕ, ◌+◌, ◌<◌, ◌≤◌, true, false, not, ltb, List, [], ◌∷◌, ◌++◌, length, drop, sym, refl, ap, ◌∙◌, subst, add-zero, zero-add, add-one, arith, drop_of_length-le, drop-cons, lt-ltb, eq-eqb, ne_eqb}
 use lib.Ieee.{Float, nan, inf, fin, binary64}
 use lib.Ieee.Scale.{finite}
-use Rattle.answers.specs.Pick.{pick, both, either, pick_true, pick_false, pick_case}
+use Rattle.answers.specs.Pick.{pick, both, either, pick_false, pick_case}
 use Rattle.answers.specs.Numbers.{limit}
 use Rattle.floats.specs.Functions.{magnitude}
 use Rattle.folds.specs.Sums.{at}
@@ -12,9 +12,9 @@ use Rattle.scan.specs.Blocks.{Seen, gather, dropped, held_at, summed}
 use Rattle.scan.specs.Calls.{with_near}
 use Rattle.scan.specs.declared.Near.{Near}
 use Rattle.scan.specs.declared.Scan.{Scan}
-use Rattle.scan.proofs.Laws.{both_and, both_fails}
+use Rattle.scan.proofs.Laws.{both_and}
 use Rattle.scan_push.proofs.Pushing.{goes_on_bin, held_on}
-use Rattle.scan_runs.specs.Runs.{Run, further, ran}
+use Rattle.scan_runs.specs.Runs.{further, ran}
 use Rattle.scan_runs.specs.Ready.{fills, passable, after_sample, total_of, moved, stretched}
 use Rattle.scan_runs.proofs.Passing.{Steady, goes_on, keeps}
 

@@ -1,5 +1,5 @@
 -- What the functions behind a run test, and what they may count on. What a run does is defined in Runs.
-use Rattle.std.specs.Prelude.{◌≡◌, ℕ, ◌+◌, ◌<◌, ◌≤◌, Bool, true, false, not, List, [], ◌∷◌, length, ◌==◌, nat_lt, Float}
+use Rattle.std.specs.Prelude.{◌≡◌, ℕ, ◌+◌, ◌<◌, ◌≤◌, Bool, false, not, List, [], ◌∷◌, length, ◌==◌, nat_lt, Float}
 use Rattle.std.specs.Float.Ieee.Scale.{finite}
 use Rattle.answers.specs.Pick.{pick, both, either}
 use Rattle.answers.specs.Numbers.{limit}

@@ -1,5 +1,7 @@
 // Near samples in runs: the state is judged once, and the samples are taken one after the other until one is refused or would fill the frame.
 // The call has no `requires`; what it does is defined by single pushes in specs/Runs.
+#![tactic(auto)]
+
 ghost use Rattle.std.specs.Prelude.{◌≡◌, ◌+◌, ◌^◌, ◌<◌, ◌≤◌, false, length};
 ghost use Rattle.scan_push.specs.Ready.{Gathers};
 ghost use Rattle.scan.specs.Blocks.{dropped, held_at};
@@ -14,14 +16,14 @@ use scan_calls::{parts, rules};
 use scan_push::near;
 
 // The state after a run, and how many samples passed.
-#[derive(Drop)]
+#[derive(Clone, Copy)]
 pub struct Ran {
     pub scan: Scan,
     pub passed: usize,
 }
 
 // The near side after a run, and how many samples passed.
-#[derive(Drop)]
+#[derive(Clone, Copy)]
 pub struct Walked {
     pub near: Near,
     pub passed: usize,

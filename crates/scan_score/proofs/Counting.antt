@@ -1,8 +1,8 @@
 -- The frames report counts the frames that passed to step 5; a banked peak is the peak of the scores; steps 5 to 8 alone exhaust a scan.
 use Prim.Native.Nat.{ℕ}
-use mathlib.Core.Path.{◌≡◌, refl, sym, ap, ◌∙◌, subst}
+use mathlib.Core.Path.{◌≡◌, refl, sym, ap, ◌∙◌}
 use mathlib.Core.List.{List, [], ◌∷◌}
-use mathlib.Core.Bool.{Bool, true, false, true≢false}
+use mathlib.Core.Bool.{true, false, true≢false}
 use lib.Dec.{eqb}
 use lib.Ieee.{Float}
 use Rattle.answers.specs.Pick.{pick, pick_all, pick_case, pick_true, pick_false}
@@ -12,7 +12,7 @@ use Rattle.floats.specs.Functions.{narrow}
 use Rattle.scan.specs.State.{World, Buffers}
 use Rattle.scan.specs.Scoring.{scores_of, products, peak_of, add_scores, averages_of, decision, exhausted_by, verdict_by, Ruling, ruling}
 use Rattle.scan.specs.Calls.{Observation, observation, counted_by, frame_of, window_in, score_refusal, scored_frame, judged, counted_frame, observed, pushed_far, pushed_near, NearPush, FarPush, Clearing, Restart, made, was_reset, reset_refusal, clear_refusal, rearmed, discarded}
-use Rattle.scan.specs.Steps.{Deed, near, score, rearm, discard, reset, ask, Call, far, deed, Response, scores, changes, refusal_of, called, making}
+use Rattle.scan.specs.Steps.{near, score, rearm, discard, reset, ask, Call, far, deed, changes, refusal_of, called, making}
 use Rattle.scan.specs.Streams.{Item, own, foreign, after}
 use Rattle.scan.specs.declared.Frame.{Frame}
 use Rattle.scan.specs.declared.Frame.TheVariants as frame

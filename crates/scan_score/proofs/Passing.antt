@@ -1,7 +1,7 @@
 -- What is known where a frame is not refused, and the refusals in their order.
-use Prim.Native.Nat.{ℕ, ◌+◌, ◌*◌, ◌^◌, ◌≤◌, ◌<◌}
-use mathlib.Core.Path.{◌≡◌, refl, sym, ap, ◌∙◌, subst}
-use mathlib.Core.Bool.{Bool, true, false}
+use Prim.Native.Nat.{ℕ, ◌*◌, ◌^◌, ◌≤◌, ◌<◌}
+use mathlib.Core.Path.{◌≡◌, sym, ap, ◌∙◌, subst}
+use mathlib.Core.Bool.{Bool, true}
 use mathlib.Core.List.{List}
 use native.Mathlib.Nat.{le-mul_of_pos_right, mul-le-mul, lt_of_le_of_lt}
 use native.Mathlib.Omega.{arith}
@@ -25,7 +25,7 @@ use Rattle.scan_decision.specs.Deciding.{Small}
 use Rattle.scan.proofs.Work.{lags_at_most}
 use Rattle.scan_calls.proofs.Chains.{first, second}
 use Rattle.scan_calls.proofs.Passing.{Passed, pass}
-use Rattle.scan_score.specs.Observing.{lent, world, may_read, Sound, Fit, Ready}
+use Rattle.scan_score.specs.Observing.{world, may_read, Sound, Fit, Ready}
 
 -- ---- the lengths
 

@@ -6,8 +6,8 @@ use Rattle.answers.specs.Numbers.{next_count}
 use Rattle.floats.specs.Functions.{narrow}
 use Rattle.scan.specs.State.{Buffers, World}
 use Rattle.scan.specs.Scoring.{peak_of, exhausted_by}
-use Rattle.scan.specs.Calls.{Observation, observed}
-use Rattle.scan.specs.Steps.{Deed, near, score, rearm, discard, reset, ask, Call, far, deed, Response, changes, takes, scores, reports_region, reports_flag, reports_count, reports_level, reports_samples, refusal_of, called, making}
+use Rattle.scan.specs.Calls.{observed}
+use Rattle.scan.specs.Steps.{near, score, rearm, discard, reset, ask, Call, far, deed, Response, changes, takes, scores, reports_region, reports_flag, reports_count, reports_level, reports_samples, refusal_of, called, making}
 use Rattle.scan.specs.Streams.{Item, own, foreign, after}
 use Rattle.scan.specs.declared.Frame.{Frame}
 use Rattle.scan.specs.declared.Frame.TheVariants as frame

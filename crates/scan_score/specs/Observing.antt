@@ -1,5 +1,5 @@
 -- The lent lists as one, with the state, and what the call gave back.
-use Rattle.std.specs.Prelude.{ℕ, ◌+◌, ◌%◌, ◌≤◌, ◌<◌, ◌≡◌, List, Bool, ltb, length, Float}
+use Rattle.std.specs.Prelude.{ℕ, ◌+◌, ◌%◌, ◌<◌, ◌≡◌, List, Bool, ltb, length, Float}
 use Rattle.answers.specs.Pick.{pick, both, either}
 use Rattle.answers.specs.Numbers.{limit}
 use Rattle.floats.specs.Functions.{zero64}

@@ -1,4 +1,6 @@
 // `observe` of coarse.rs: a full frame is scored by steps 1 to 8 of SPECIFICATION 7.
+#![tactic(auto)]
+
 ghost use Rattle.std.specs.Prelude.{◌≡◌, List, ◌≤◌, ◌<◌, ◌^◌, length, Float};
 ghost use Rattle.std.specs.Float.{binary64};
 ghost use Rattle.std.specs.Float.Ieee.{add};

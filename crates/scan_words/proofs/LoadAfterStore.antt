@@ -1,21 +1,14 @@
 -- What is stored loads again: `load_after_store`.
-use Prim.Native.Nat.{ℕ, zero, suc, ◌*◌, ◌^◌, ◌<◌}
-use mathlib.Core.Path.{◌≡◌, refl, sym, ap, ◌∙◌, subst}
-use mathlib.Core.Bool.{Bool, true, false, true≢false}
+use Prim.Native.Nat.{ℕ, zero, suc, ◌^◌, ◌<◌}
+use mathlib.Core.Path.{◌≡◌, refl, ap, ◌∙◌, subst}
+use mathlib.Core.Bool.{true}
 use mathlib.Core.List.{List, [], ◌∷◌}
-use native.Mathlib.Omega.{arith}
-use lib.Dec.{T, ltb, eqb}
-use lib.ListN.{length, get_or, set}
-use lib.Ieee.{Float, nan, inf, fin, Format, binary32, binary64, fits, is_nan, nan_bits, of_bits, to_bits, top}
-use lib.Ieee.Bits.{of_bits-to_bits, to_bits-lt, nan_bits_is}
-use borrow.Author.Tests.{lt-ltb, ltb-true}
-use Rattle.answers.specs.Pick.{pick, pick_true, pick_false, pick_case}
+use lib.Dec.{ltb}
+use lib.ListN.{length}
+use lib.Ieee.{binary32, binary64, of_bits}
+use borrow.Author.Tests.{lt-ltb}
+use Rattle.answers.specs.Pick.{pick, pick_true}
 use Rattle.words.specs.Words.{word, half, all_below, pattern_of, flag_of}
-use Rattle.units.specs.Units.{samples}
-use Rattle.scan.specs.declared.Geometry.{Geometry}
-use Rattle.scan.specs.declared.Far.{Far}
-use Rattle.scan.specs.declared.Near.{Near}
-use Rattle.scan.specs.declared.Region.{Region}
 use Rattle.scan.specs.declared.Found.{Found}
 use Rattle.scan.specs.declared.Found.TheVariants.{Nothing, At}
 use Rattle.scan.specs.declared.Verdict.{Verdict}

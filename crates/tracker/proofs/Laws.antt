@@ -1,8 +1,7 @@
 -- The laws of a verdict: a refusal changes nothing, a move never lands past its candidate, and a verdict to reacquire leaves what its trigger says.
-use Prim.Native.Nat.{ℕ, ◌-◌, ◌≤◌, max}
+use Prim.Native.Nat.{ℕ, ◌≤◌, max}
 use mathlib.Core.Path.{◌≡◌, refl, sym, subst, ◌∙◌}
 use mathlib.Core.Bool.{Bool, true, false}
-use mathlib.Core.List.{List}
 use native.Mathlib.Omega.{arith}
 use lib.Dec.{ltb, leb, eqb}
 use borrow.Author.Tests.{eqb-true}
@@ -19,12 +18,12 @@ use Rattle.tracker.specs.declared.Outcome.TheVariants.{Candidate, Unconfident}
 use Rattle.tracker.specs.declared.Trigger.{Trigger}
 use Rattle.tracker.specs.declared.Trigger.TheVariants.{Edge, Lost, Jump, Seam}
 use Rattle.tracker.specs.declared.Verdict.{Verdict}
-use Rattle.tracker.specs.declared.Verdict.TheVariants.{Refused, Hold, Move, Reacquire}
+use Rattle.tracker.specs.declared.Verdict.TheVariants.{Hold, Move, Reacquire}
 use Rattle.tracker.specs.declared.Tracker.{Tracker}
 use Rattle.tracker.specs.declared.Changed.{Changed}
 use Rattle.tracker.specs.declared.Cycled.{Cycled}
-use Rattle.tracker.specs.Tracker.{present, state_refusal, changed, evidence, seamed}
-use Rattle.tracker.specs.Cycle.{at_limit, unconfident_cycle, edge_cycle, jumped, outside_bands, confirmed, landing, contradicts, with_jumps, escalated, outside_cycle, interior_cycle, judged, cycle_refusal, cycled}
+use Rattle.tracker.specs.Tracker.{state_refusal, changed, evidence, seamed}
+use Rattle.tracker.specs.Cycle.{at_limit, unconfident_cycle, edge_cycle, outside_bands, confirmed, landing, with_jumps, escalated, outside_cycle, interior_cycle, judged, cycle_refusal, cycled}
 use Rattle.tracker.specs.Told.{move_to, trigger_number, reacquire, verdict_told}
 use Rattle.tracker.specs.Rules.{Moves, Unsure, Leaves}
 use Rattle.tracker.proofs.Sound.{accepted_cycle}

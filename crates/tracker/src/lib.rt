@@ -1,6 +1,8 @@
 // The delay tracker follows a locked delay and says when the lock has gone bad.
 // The tracker goes in by value with each call and comes back by value. No public call has a `requires`: a bad call is refused by number and
 // hands back the tracker that it was given. Each contract is one equation with a definition of specs/.
+#![tactic(auto)]
+
 ghost use Rattle.std.specs.Prelude.{◌≡◌, ◌≤◌, max};
 ghost use Rattle.tracker.specs.Tracker.{present, below_limit, per_ms, bands_of, same_bands, fresh, made, state_refusal, changed, evidence, seamed, jump_cycles, longest_run, suspected, unfinished, quiescent};
 ghost use Rattle.tracker.specs.Cycle.{outside_bands, jumped, contradicts, confirmed, landing, unconfident_cycle, edge_cycle, with_jumps, escalated, outside_cycle, interior_cycle, judged, cycle_refusal, cycled};
@@ -9,21 +11,21 @@ use answers::{Change, Count, Flag};
 use units::Samples;
 
 // A delay, or none.
-#[derive(Drop)]
+#[derive(Clone, Copy)]
 pub enum Delay {
     Nothing,
     At(Samples),
 }
 
 // What one concluded cycle observed.
-#[derive(Drop)]
+#[derive(Clone, Copy)]
 pub enum Outcome {
     Candidate { delay: Samples, interior: bool },
     Unconfident,
 }
 
 // Why the lock is given up.
-#[derive(Drop)]
+#[derive(Clone, Copy)]
 pub enum Trigger {
     Edge,
     Lost,
@@ -31,7 +33,7 @@ pub enum Trigger {
     Seam,
 }
 
-#[derive(Drop)]
+#[derive(Clone, Copy)]
 pub enum Verdict {
     Refused(u8),
     Hold,
@@ -40,7 +42,7 @@ pub enum Verdict {
 }
 
 // The tracker's distances in samples. They follow from the rate.
-#[derive(Drop)]
+#[derive(Clone, Copy)]
 pub struct Bands {
     pub late: u64,
     pub early: u64,
@@ -49,7 +51,7 @@ pub struct Bands {
     pub lead: u64,
 }
 
-#[derive(Drop)]
+#[derive(Clone, Copy)]
 pub struct Tracker {
     pub rate: u32,
     pub bands: Bands,
@@ -67,13 +69,13 @@ pub struct Tracker {
     pub largest: u32,
 }
 
-#[derive(Drop)]
+#[derive(Clone, Copy)]
 pub struct Changed {
     pub tracker: Tracker,
     pub answer: Change,
 }
 
-#[derive(Drop)]
+#[derive(Clone, Copy)]
 pub struct Cycled {
     pub tracker: Tracker,
     pub verdict: Verdict,

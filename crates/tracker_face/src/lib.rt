@@ -1,4 +1,6 @@
 // The tracker's calls. crates/tracker_words/specs/Layout.antt says where each field of its state is.
+#![tactic(auto)]
+
 ghost use Rattle.std.specs.Prelude.{◌≡◌};
 ghost use Rattle.tracker_words.specs.Layout.{tracker_words};
 ghost use Rattle.tracker_face.specs.Calls.{judged_tracker, new_called, on_discontinuity_called, outcome_of, judged_as, cycled_on, on_cycle_called, jump_cycles_called, longest_run_called, suspect_called, quiescent_called};

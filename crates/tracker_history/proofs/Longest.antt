@@ -1,17 +1,16 @@
 -- The largest run on the record is the largest of the history: every tracker but a new one comes of `evidence`, which takes each cycle's own run in.
 use Prim.Native.Nat.{ℕ, ◌≤◌, max}
-use mathlib.Core.Path.{◌≡◌, refl, sym, ap, subst, ◌∙◌}
-use mathlib.Core.Bool.{Bool, true, false}
+use mathlib.Core.Path.{◌≡◌, refl, ap, ◌∙◌}
+use mathlib.Core.Bool.{Bool}
 use mathlib.Core.List.{[], ◌∷◌}
 use native.Mathlib.Omega.{arith}
 use lib.Dec.{ltb, eqb}
-use borrow.Author.Tests.{eqb-true, eq-eqb}
-use Rattle.answers.specs.declared.Count.{Count}
+use borrow.Author.Tests.{eq-eqb}
 use Rattle.answers.specs.declared.Count.TheVariants.{Is}
 use Rattle.answers.specs.Answers.{counted}
 use Rattle.answers.specs.Numbers.{limit, allowed_rate}
 use Rattle.answers.specs.Pick.{pick_true, pick_all, pick_case}
-use Rattle.answers.specs.Refusals.{none, too_large, inconsistent_record}
+use Rattle.answers.specs.Refusals.{none, inconsistent_record}
 use Rattle.units.specs.declared.Samples.{Samples}
 use Rattle.tracker.specs.declared.Outcome.{Outcome}
 use Rattle.tracker.specs.declared.Outcome.TheVariants.{Candidate, Unconfident}
@@ -20,12 +19,11 @@ use Rattle.tracker.specs.declared.Changed.{Changed}
 use Rattle.tracker.specs.declared.Cycled.{Cycled}
 use Rattle.tracker.specs.Tracker.{state_refusal, changed, fresh, made, seamed, longest_run}
 use Rattle.tracker.specs.Cycle.{unconfident_cycle, edge_cycle, escalated, outside_cycle, interior_cycle, judged, delay_below_limit, cycle_refusal, cycled}
-use Rattle.tracker.specs.Rules.{Sound}
 use Rattle.tracker.specs.Told.{verdict_told}
 use Rattle.tracker.proofs.Sound.{sound_accepted}
 use Rattle.tracker.proofs.Laws.{refused_cycle}
-use Rattle.tracker_history.specs.Histories.{cycle, discontinuity, History, tracker_after, Accepted}
-use Rattle.tracker_history.specs.Longest.{runs_in, largest_of, Longest, LargestIsLargest, Clears, SeamClears, NeverInconsistent}
+use Rattle.tracker_history.specs.Histories.{cycle, discontinuity, History, tracker_after}
+use Rattle.tracker_history.specs.Longest.{runs_in, largest_of, LargestIsLargest, SeamClears, NeverInconsistent}
 use Rattle.tracker_history.proofs.Accepted.{sound_after}
 
 -- ---- one call

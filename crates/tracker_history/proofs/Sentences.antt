@@ -1,5 +1,5 @@
 -- Each word is its sentence, both directions.
-use Prim.Native.Nat.{ℕ, ◌+◌, ◌≤◌}
+use Prim.Native.Nat.{ℕ, ◌≤◌}
 use mathlib.Core.Path.{◌≡◌, refl, sym, ap, subst, ◌∙◌}
 use mathlib.Core.Bool.{Bool, true, false, not, true≢false, false≢true}
 use mathlib.Core.List.{[], ◌∷◌, ◌++◌}
@@ -15,8 +15,8 @@ use Rattle.tracker.specs.declared.Delay.TheVariants.{Nothing, At}
 use Rattle.tracker.specs.declared.Outcome.{Outcome}
 use Rattle.tracker.specs.declared.Outcome.TheVariants.{Candidate, Unconfident}
 use Rattle.tracker.specs.Tracker.{bands_of}
-use Rattle.tracker_history.specs.Histories.{cycle, discontinuity, History, outside, agrees, confirms, unconfident_run, edges_since, pending_in, moves, inside, settles, suspicion}
-use Rattle.tracker_history.specs.Sentences.{Test, None, LatestPasses, SinceLast, breaks_run, EndsRun, lifts_suspicion, seam_among, Suspect, clears_edges, edges_among, EdgesCame, clears_pending, Pending, Confirms, RunReads, SuspicionReads, EdgesRead, PendingReads, MovesRead}
+use Rattle.tracker_history.specs.Histories.{cycle, discontinuity, History, outside, agrees, confirms, unconfident_run, edges_since, pending_in, moves, inside, suspicion}
+use Rattle.tracker_history.specs.Sentences.{Test, None, LatestPasses, SinceLast, breaks_run, EndsRun, lifts_suspicion, seam_among, clears_edges, edges_among, clears_pending, Pending, Confirms, RunReads, SuspicionReads, EdgesRead, PendingReads, MovesRead}
 use Rattle.tracker_history.proofs.Says.{clash}
 
 -- ---- the run of unconfident cycles

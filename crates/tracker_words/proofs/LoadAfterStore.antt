@@ -1,11 +1,11 @@
 -- What is stored loads again: `load_after_store`.
 use Prim.Native.Nat.{ℕ}
 use mathlib.Core.Path.{◌≡◌, refl, ◌∙◌}
-use mathlib.Core.Bool.{Bool, true}
+use mathlib.Core.Bool.{true}
 use mathlib.Core.List.{List}
 use lib.Dec.{ltb}
 use borrow.Author.Tests.{lt-ltb}
-use Rattle.answers.specs.Pick.{pick, both, pick_true}
+use Rattle.answers.specs.Pick.{pick, pick_true}
 use Rattle.words.specs.Words.{word}
 use Rattle.words.proofs.Back.{half_small, flag_reads, flag_case, all_below_lem}
 use Rattle.tracker.specs.declared.Delay.{Delay}

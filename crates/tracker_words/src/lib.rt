@@ -1,4 +1,6 @@
 // Loads a tracker's state from the 15 words that a host lends, stores it there, and turns its calls' answers into numbers and values. specs/Layout.antt says where each field is.
+#![tactic(auto)]
+
 ghost use Rattle.std.specs.Prelude.{◌≡◌, length};
 ghost use Rattle.tracker_words.specs.Layout.{tracker_words, loaded_bands, loaded_delay, are_cases, loaded_pending, loaded, delay_flag, delay_word, stored, settled};
 

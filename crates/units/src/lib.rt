@@ -1,13 +1,15 @@
 // The two units of a delay, kept apart by type, and the one conversion between them.
+#![tactic(auto)]
+
 ghost use Rattle.std.specs.Prelude.{◌≡◌, ◌*◌, ◌<◌, ◌^◌};
 ghost use Rattle.units.specs.Units.{in_samples};
 
 // Native samples.
-#[derive(Drop)]
+#[derive(Clone, Copy)]
 pub struct Samples(pub u64);
 
 // Coarse bins: blocks of `decimation` native samples.
-#[derive(Drop)]
+#[derive(Clone, Copy)]
 pub struct Bins(pub u64);
 
 impl Bins {

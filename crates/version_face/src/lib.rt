@@ -1,4 +1,6 @@
 // The version of the tree from which an archive was made, so that firmware can compare it with the header that it was compiled with.
+#![tactic(auto)]
+
 ghost use Rattle.std.specs.Prelude.{◌≡◌};
 ghost use Rattle.version_face.specs.Version.{this_version};
 

@@ -10,7 +10,6 @@ use Rattle.wav.specs.declared.Chunks.TheVariants as chunks
 use Rattle.wav.specs.declared.Kind.{Kind}
 use Rattle.wav.specs.declared.Kind.TheVariants.{Short, Single}
 use Rattle.wav.specs.declared.Format.{Format}
-use Rattle.wav.specs.declared.Sound.{Sound}
 use Rattle.wav.specs.declared.Reason.{Reason}
 use Rattle.wav.specs.declared.Reason.TheVariants.{NotRiff, NotWave, NoFormat, NoData, ShortFormat, OtherFormat, OtherBits, OtherFrame, OtherRate, Cut, NotWhole}
 use Rattle.wav.specs.declared.Answer.{Answer}

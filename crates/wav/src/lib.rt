@@ -1,4 +1,6 @@
 // Reads a WAVE file: what its head tells, and the samples of one channel out of its frames.
+#![tactic(auto)]
+
 ghost use Rattle.std.specs.Prelude.{◌≡◌, ◌+◌, ◌*◌, ◌≤◌, ◌<◌, eqb, ◌++◌, length, drop};
 ghost use Rattle.answers.specs.Pick.{pick};
 ghost use Rattle.wav.specs.Riff;
@@ -11,7 +13,7 @@ ghost use Rattle.wav.specs.Steps.{Reachable};
 use recording::{u16_at, u32_at};
 
 // Where the chunks of the format and of the samples begin, or which of them is missing.
-#[derive(Drop)]
+#[derive(Clone, Copy)]
 pub enum Chunks {
     Found { format: usize, samples: usize },
     NoFormat,
@@ -19,14 +21,14 @@ pub enum Chunks {
 }
 
 // What a sample is: a signed number of 16 bits, or a float of 32.
-#[derive(Drop)]
+#[derive(Clone, Copy)]
 pub enum Kind {
     Short,
     Single,
 }
 
 // What the chunk of the format says.
-#[derive(Drop)]
+#[derive(Clone, Copy)]
 pub struct Format {
     pub tag: u16,
     pub channels: u16,
@@ -36,7 +38,7 @@ pub struct Format {
 }
 
 // The samples are `size` bytes from byte `at` on; a frame is a sample of each channel.
-#[derive(Drop)]
+#[derive(Clone, Copy)]
 pub struct Sound {
     pub kind: Kind,
     pub channels: u16,
@@ -48,7 +50,7 @@ pub struct Sound {
 
 // Why a file is refused. OtherFormat: compressed, or of a tag that is not known. OtherFrame: no channels, or the bytes of a frame are not those of its samples.
 // NoData: the samples do not begin within the head. Cut: they run past the file's end. NotWhole: the last frame is not whole.
-#[derive(Drop)]
+#[derive(Clone, Copy)]
 pub enum Reason {
     NotRiff,
     NotWave,
@@ -63,7 +65,7 @@ pub enum Reason {
     NotWhole,
 }
 
-#[derive(Drop)]
+#[derive(Clone, Copy)]
 pub enum Answer {
     Opened(Sound),
     Refused(Reason),

@@ -1,4 +1,6 @@
 // Reads and writes one word: a number of 32 bits, or a float's pattern. A NaN has no pattern in the logic; a pattern is recognised as a NaN's by its size.
+#![tactic(auto)]
+
 ghost use Rattle.std.specs.Prelude.{◌≡◌, ◌<◌, ◌^◌, length};
 ghost use Rattle.std.specs.Float.{binary32, binary64};
 ghost use Rattle.answers.specs.Told.{change_told, count_told, flag_told};

@@ -1,0 +1,15 @@
+use Rattle.answers.proofs.Cases.{cases}
+use Rattle.fine.specs.Calls.{window_back_off, samples_reported}
+use Rattle.fine.proofs.Laws.{back_off_fits}
+use Rattle.fine.proofs.Fine.window_back_off.Goals as goal
+
+pub returns-then-refusal-ne0 : goal.returns-then-refusal-ne0
+unfolding window_back_off samples_reported
+returns-then-refusal-ne0 c = search (cases, ← c.refusal-refusal.ensures)
+
+pub overflow_add-result : goal.overflow_add-result
+overflow_add-result c = back_off_fits c.args.self _ c.refusal-refusal.ensures c.if-refusal-ne0.false
+
+pub returns : goal.returns
+unfolding window_back_off samples_reported
+returns c = search (cases, ← c.refusal-refusal.ensures)

@@ -1,0 +1,23 @@
+-- `fine_face::tmv_fine_last_scan_origin` meets its contract.
+use mathlib.Core.Path.{sym, ◌∙◌}
+use Rattle.fine.specs.Told.{samples_told}
+use Rattle.words.specs.Words.{one_value}
+use Rattle.fine.specs.Calls.{last_scan_origin}
+use Rattle.fine_face.specs.Calls.{last_scan_origin_called}
+use Rattle.face.proofs.Order.{state_fits, values_fit}
+use Rattle.fine_face.proofs.Reports.{turned_away, reports}
+use Rattle.fine_face.proofs.tmv_fine_last_scan_origin.Goals as goal
+
+pub returns-then-refusal-ne0 : goal.returns-then-refusal-ne0
+unfolding last_scan_origin_called
+returns-then-refusal-ne0 c = let parts = turned_away samples_told last_scan_origin one_value c.args.state.now c.args.values.now c.judge-refusal.ensures c.if-refusal-ne0.true in record { number = parts.0; values = parts.1 }
+
+pub load-requires : goal.load-requires
+load-requires c = state_fits _ c.args.state.now _ _ (sym c.judge-refusal.ensures ∙ c.if-refusal-ne0.false)
+
+pub tell_samples-requires : goal.tell_samples-requires
+tell_samples-requires c = values_fit _ _ _ c.args.values.now (sym c.judge-refusal.ensures ∙ c.if-refusal-ne0.false)
+
+pub returns : goal.returns
+unfolding last_scan_origin_called
+returns c = let parts = reports samples_told last_scan_origin one_value c.args.state.now c.args.values.now c.judge-refusal.ensures c.if-refusal-ne0.false c.load.ensures c.last_scan_origin.ensures c.tell_samples.ensures.number c.tell_samples.ensures.values in record { number = parts.0; values = parts.1 }

@@ -1,0 +1,17 @@
+use Rattle.answers.proofs.Cases.{picks}
+use Rattle.std.proofs.Common.{eq-eqb, ne_eqb}
+use borrow.Author.Tests.{not-true, not-false}
+use Rattle.fine_gate.specs.Gate.{rescanned}
+use Rattle.fine_gate.proofs.rescan.Goals as goal
+
+pub returns-then-refusal-ne0 : goal.returns-then-refusal-ne0
+unfolding rescanned
+returns-then-refusal-ne0 c = simp (picks, ← c.rescan_refusal-refusal.ensures, ne_eqb _ _ c.if-refusal-ne0.true)
+
+pub returns-then-not-frames : goal.returns-then-not-frames
+unfolding rescanned
+returns-then-not-frames c = simp (picks, ← c.rescan_refusal-refusal.ensures, eq-eqb _ _ c.if-refusal-ne0.false, not-true c.args.fine.frames.retained c.if-not-frames.true)
+
+pub returns : goal.returns
+unfolding rescanned
+returns c = simp (picks, ← c.rescan_refusal-refusal.ensures, eq-eqb _ _ c.if-refusal-ne0.false, not-false c.args.fine.frames.retained c.if-not-frames.false, ← c.judge-passage.ensures, c.rescan_answer.ensures)

@@ -1,0 +1,13 @@
+-- `fine_words::settle` meets its contract.
+use Rattle.answers.proofs.Cases.{cases}
+use Rattle.fine_words.specs.Layout.{settled}
+use mathlib.Core.Path.{refl}
+use Rattle.fine_words.proofs.settle.Goals as goal
+
+pub returns-then-number-lt16 : goal.returns-then-number-lt16
+unfolding settled
+returns-then-number-lt16 c = record { number = refl; words = search cases }
+
+pub returns : goal.returns
+unfolding settled
+returns c = record { number = refl; words = search (cases, ← c.store.ensures) }

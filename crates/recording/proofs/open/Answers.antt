@@ -1,0 +1,34 @@
+-- `recording::open` meets its contract: test by test.
+use mathlib.Core.Path.{sym, ap, ◌∙◌}
+use Rattle.answers.specs.Numbers.{allowed_rate, allowed_ceiling}
+use Rattle.recording.specs.Recording.{headed}
+use Rattle.recording.specs.declared.Start.TheVariants.{Opened}
+use Rattle.recording.proofs.Laws.{opened_short, rate_refused, ceiling_refused, in_table}
+use Rattle.recording.proofs.open.Goals as goal
+
+pub returns-then-s-lt24 : goal.returns-then-s-lt24
+returns-then-s-lt24 c = sym (opened_short c.args.s.now c.if-s-lt24.true)
+
+pub returns-then-not-allowed_rate : goal.returns-then-not-allowed_rate
+returns-then-not-allowed_rate c =
+    let rate = c.u32_at.ensures in
+    sym (rate_refused c.args.s.now c.if-s-lt24.false (ap allowed_rate (sym rate) ∙ sym c.allowed_rate.ensures ∙ c.if-not-allowed_rate.true))
+
+pub returns-then-not-allowed_ceiling : goal.returns-then-not-allowed_ceiling
+returns-then-not-allowed_ceiling c =
+    sym (ceiling_refused c.args.s.now c.if-s-lt24.false
+    (ap allowed_rate (sym c.u32_at.ensures) ∙ sym c.allowed_rate.ensures ∙ c.if-not-allowed_rate.false)
+    (ap allowed_ceiling (sym c.u32_at-2.ensures) ∙ sym c.allowed_ceiling.ensures ∙ c.if-not-allowed_ceiling.true))
+
+pub returns-in-Known : goal.returns-in-Known
+returns-in-Known c =
+    let s = c.args.s.now in
+    ap Opened c.header_at.ensures
+    ∙ sym (in_table s c.if-s-lt24.false (ap allowed_rate (sym c.u32_at.ensures) ∙ sym c.allowed_rate.ensures ∙ c.if-not-allowed_rate.false) (ap allowed_ceiling (sym c.u32_at-2.ensures) ∙ sym c.allowed_ceiling.ensures ∙ c.if-not-allowed_ceiling.false)
+    ∙ ap (headed s) (sym c.shape_at-shape.ensures ∙ c.in-Known.is))
+
+pub returns-in-NoForm : goal.returns-in-NoForm
+returns-in-NoForm c =
+    let s = c.args.s.now in
+    sym (in_table s c.if-s-lt24.false (ap allowed_rate (sym c.u32_at.ensures) ∙ sym c.allowed_rate.ensures ∙ c.if-not-allowed_rate.false) (ap allowed_ceiling (sym c.u32_at-2.ensures) ∙ sym c.allowed_ceiling.ensures ∙ c.if-not-allowed_ceiling.false)
+    ∙ ap (headed s) (sym c.shape_at-shape.ensures ∙ c.in-NoForm.is))

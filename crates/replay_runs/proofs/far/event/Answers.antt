@@ -1,0 +1,27 @@
+-- `event` meets its contract: by what is at hand of its samples.
+use Prim.Native.Nat.{◌-◌}
+use mathlib.Core.Path.{◌≡◌, sym, ap, ◌∙◌}
+use native.Mathlib.Omega.{arith}
+use lib.ListN.{length, take, drop, length-drop}
+use Rattle.replay_near.proofs.Decoding.{bytes_least}
+use Rattle.replay_entry.proofs.Entries.{supply_there}
+use Rattle.replay_runs.proofs.Silently.{rest_on}
+use Rattle.replay_runs.proofs.Events.{halts}
+use Rattle.replay_runs.proofs.far.event.Goals as goal
+
+pub hear-requires : goal.hear-requires
+hear-requires c =
+    let a = c.args in
+    let w = supply_there _ _ _ _ _ (sym c.of-s.ensures ∙ c.in-AtHand.is) in
+    let there : length (take (length a.far.now - a.at.bytes.far) (drop a.at.bytes.far a.far.now)) ≡ length a.far.now - a.at.bytes.far = ap length (rest_on a.far.now a.at.bytes.far) ∙ length-drop a.at.bytes.far a.far.now in
+    (c.requires.0, c.requires.1, c.requires.2, record { total = w.0; there = omega (arith, w.1, there, c.requires.3); few = c.requires.4; room = omega (arith, w.1, there, bytes_least a.header.form a.count, c.requires.3, c.requires.4, c.requires.5) }, c.requires.6)
+
+pub returns-in-Awaited : goal.returns-in-Awaited
+returns-in-Awaited c =
+    let a = c.args in
+    λ ev nr l bef. rw c.halt.ensures (halts a.header a.session ev a.far.now nr a.at a.envelope.now l bef.inside c.requires.0)
+
+pub returns-in-Lacking : goal.returns-in-Lacking
+returns-in-Lacking c =
+    let a = c.args in
+    λ ev nr l bef. rw c.halt-in-Lacking.ensures (halts a.header a.session ev a.far.now nr a.at a.envelope.now l bef.inside c.requires.0)

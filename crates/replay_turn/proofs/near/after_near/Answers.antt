@@ -1,0 +1,5 @@
+-- `near::after_near` meets its contract: by the stage.
+use Rattle.replay_turn.proofs.near.after_near.Goals as goal
+
+pub returns : goal.returns
+returns c = rw (c.stage_at-stage.ensures, c.bytes_of.ensures)

@@ -1,0 +1,8 @@
+-- `scan_calls::parts::new_verdict` meets its contract: the code's 0.0 is +0.
+use mathlib.Core.Path.{refl}
+use lib.Ieee.{of_bits}
+use Rattle.scan_calls.proofs.parts.new_verdict.Goals as goal
+
+pub returns : goal.returns
+unfolding of_bits
+returns c = refl

@@ -1,0 +1,9 @@
+-- `scan_calls::rules::finished` meets its contract: by its tests.
+use Rattle.answers.proofs.Cases.{cases}
+use Rattle.scan_calls.proofs.rules.finished.Goals as goal
+
+pub returns-then-present : goal.returns-then-present
+returns-then-present c = search (cases, ← c.present.ensures)
+
+pub returns : goal.returns
+returns c = search (cases, ← c.present.ensures)

@@ -1,0 +1,9 @@
+-- `scan_calls::rules::whole_if_full` meets its contract: by its tests.
+use Rattle.answers.proofs.Cases.{cases}
+use Rattle.scan_calls.proofs.rules.whole_if_full.Goals as goal
+
+pub returns-then-n-g : goal.returns-then-n-g
+returns-then-n-g c = search (cases)
+
+pub returns : goal.returns
+returns c = search (cases)

@@ -1,0 +1,24 @@
+-- `scan_decision::average` meets its contract. Invariant: the first k sums are averages.
+use mathlib.Core.Path.{refl}
+use Rattle.folds.proofs.Rewriting.{untouched, one_more, rewritten}
+use native.Mathlib.Omega.{arith}
+use Rattle.scan_decision.proofs.average.Invariants.{averaged}
+use Rattle.scan_decision.proofs.average.Goals as goal
+
+pub loop-k-init : goal.loop-k-init
+loop-k-init c = (omega arith, untouched _ _)
+
+pub loop-k-smaller : goal.loop-k-smaller
+loop-k-smaller c = omega (arith, c.loop-k.invariant.1.size)
+
+pub loop-k-preserved : goal.loop-k-preserved
+loop-k-preserved c =
+    let l = c.loop-k in
+    let a = c.args in
+    (omega (arith, l.invariant.1.size), one_more averaged a.sums.now l.k l.sums _ l.invariant.1 (omega arith) refl)
+
+pub shape_of-sums : goal.shape_of-sums
+shape_of-sums c = c.loop-k.invariant.1.size
+
+pub returns : goal.returns
+returns c = rewritten averaged c.args.sums.now c.loop-k.k c.loop-k.sums c.loop-k.invariant.1 (omega (arith, c.loop-k.invariant.1.size))

@@ -1,0 +1,5 @@
+-- `scan_pair_calls::parts::as_new` meets its contract.
+use Rattle.scan_pair_calls.proofs.parts.as_new.Goals as goal
+
+pub returns : goal.returns
+returns c = cc

@@ -1,0 +1,25 @@
+-- `scan_pair_face::tmv_pair_rearm` meets its contract.
+use mathlib.Core.Path.{sym, ◌∙◌}
+use Rattle.scan_pair_face.specs.Calls.{rearm_called}
+use Rattle.face.proofs.Order.{refused, let_pass, number_is, words_are, buffers_are}
+use Rattle.scan_pair_face.proofs.Order.{on_state_fits}
+use Rattle.scan_pair_face.proofs.tmv_pair_rearm.Goals as goal
+
+pub returns-then-refusal-ne0 : goal.returns-then-refusal-ne0
+unfolding rearm_called
+returns-then-refusal-ne0 c = let w = refused _ _ _ _ _ _ c.judge_on-refusal.ensures c.if-refusal-ne0.true in record { number = number_is w; words = words_are w; sums = buffers_are w }
+
+pub load-requires : goal.load-requires
+load-requires c = on_state_fits c.args.channel c.args.state.now _ (sym c.judge_on-refusal.ensures ∙ c.if-refusal-ne0.false)
+
+pub settle_in-requires : goal.settle_in-requires
+settle_in-requires c = on_state_fits c.args.channel c.args.state.now _ (sym c.judge_on-refusal.ensures ∙ c.if-refusal-ne0.false)
+
+pub returns : goal.returns
+unfolding rearm_called
+returns c = let p = let_pass _ _ _ _ _ _ c.judge_on-refusal.ensures c.if-refusal-ne0.false in
+    record {
+      number = cc (c.settle_in.ensures.number, c.change_number.ensures, c.rearm-changed.ensures.changed, c.load.ensures) ∙ number_is p;
+      words = cc (c.settle_in.ensures.words, c.change_number.ensures, c.rearm-changed.ensures.changed, c.load.ensures) ∙ words_are p;
+      sums = cc (c.rearm-changed.ensures.sums, c.load.ensures) ∙ buffers_are p;
+    }

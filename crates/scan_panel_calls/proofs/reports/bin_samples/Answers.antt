@@ -1,0 +1,13 @@
+-- `scan_panel_calls::reports::bin_samples` meets its contract.
+use mathlib.Core.Path.{◌∙◌}
+use Rattle.scan_panel.specs.Panel.{panel_bin_samples}
+use Rattle.scan_panel_calls.proofs.Calls.{turned_down, goes_on}
+use Rattle.scan_panel_calls.proofs.reports.bin_samples.Goals as goal
+
+pub returns-then-not-allows : goal.returns-then-not-allows
+unfolding panel_bin_samples
+returns-then-not-allows c = turned_down _ _ c.allows.ensures c.if-not-allows.true-raw
+
+pub returns : goal.returns
+unfolding panel_bin_samples
+returns c = c.bin_samples.ensures ∙ goes_on _ _ c.allows.ensures c.if-not-allows.false-raw

@@ -1,0 +1,10 @@
+-- `scan_panel_face::tmv_panel_envelope_len` meets its contract.
+use mathlib.Core.Path.{refl, sym, ◌∙◌}
+use Rattle.scan_words.proofs.Chosen.{given, kept}
+use Rattle.scan_panel_face.proofs.tmv_panel_envelope_len.Goals as goal
+
+pub returns-then-in_table : goal.returns-then-in_table
+returns-then-in_table c = given _ _ _ _ (sym c.in_table.ensures ∙ c.if-in_table.true) (cc (c.geometry_of.ensures.is, c.envelope_len.ensures))
+
+pub returns : goal.returns
+returns c = kept _ _ _ _ (sym c.in_table.ensures ∙ c.if-in_table.false) refl
