@@ -1,8 +1,14 @@
 // Checks a log against a recording: `check_main EVENTS FAR NEAR LOG` says `accepted`, or names the first wrong line. `./check` is its front.
-use pipes::{named, told};
+#![tactic(auto)]
+
+use pipes::reason::Reason;
+use pipes::{named, rooms, told};
 use replay_close::Outcome;
-use replay_inputs::Most;
+use replay_inputs::{Files, Most};
 use replay_sink::Goal;
+use std::fs::File;
+use std::io::Stderr;
+use std::process::ExitCode;
 
 fn whole_files() -> Most {
     Most {
@@ -12,93 +18,125 @@ fn whole_files() -> Most {
     }
 }
 
-fn name_unread(input: u8, events: &[u8], far: &[u8], near: &[u8], log: &[u8]) {
+fn name_unread(
+    err: Stderr,
+    input: u8,
+    why: Reason,
+    events: &[u8],
+    far: &[u8],
+    near: &[u8],
+    log: &[u8],
+) {
     match input {
-        1 => named::fail(b"check", events),
-        2 => named::fail(b"check", far),
-        3 => named::fail(b"check", near),
-        _ => named::fail(b"check", log),
+        1 => named::fail(err, b"check", events, why),
+        2 => named::fail(err, b"check", far, why),
+        3 => named::fail(err, b"check", near, why),
+        _ => named::fail(err, b"check", log, why),
     }
 }
 
-// A reader that has gone away has had what it wanted, and yet the log was not found right: 1.
-fn unwritten() -> u64 {
-    if told::unread() {
-        return 1;
+// A reader that has gone away has had what it wanted: the status is then that of a program that SIGPIPE ended.
+fn unwritten(err: Stderr, why: Reason) -> u64 {
+    if told::unread(why) {
+        return 141;
     }
-    named::fail(b"check", b"standard output");
+    named::fail(err, b"check", b"standard output", why);
     1
 }
 
-// What the program ends with: 0 where the log was accepted, 3 where it is wrong, 1 where a file could not be read or the verdict not written, which standard error names.
-fn status_of(outcome: Outcome, events: &[u8], far: &[u8], near: &[u8], log: &[u8]) -> u64 {
+// What the program ends with: 0 where the log was accepted, 3 where it is wrong, 1 where a file could not be read or the verdict not written, which standard error names, or 141 where nobody
+// reads the verdict any more.
+fn status_of(
+    err: Stderr,
+    outcome: Outcome,
+    events: &[u8],
+    far: &[u8],
+    near: &[u8],
+    log: &[u8],
+) -> u64 {
     match outcome {
         Outcome::Done => 0,
         Outcome::Amiss => 0,
         Outcome::Wrong => 3,
-        Outcome::Unread(input) => {
-            name_unread(input, events, far, near, log);
+        Outcome::Unread(input, why) => {
+            name_unread(err, input, why, events, far, near, log);
             1
         }
-        Outcome::Unwritten => unwritten(),
+        Outcome::Unwritten(why) => unwritten(err, why),
         Outcome::Broken => {
-            named::say(b"check", b"the library's answer fits no recording");
+            named::say(err, b"check", b"the library's answer fits no recording");
             1
         }
     }
 }
 
-fn checked(events: &[u8], far: &[u8], near: &[u8], log: &[u8]) -> u64 {
-    let e = named::open(b"check", events);
-    if e < 0 {
+// The three files of a recording, and a log.
+#[derive(Drop)]
+struct Judged {
+    events: File,
+    far: File,
+    near: File,
+    log: File,
+}
+
+// They are opened in their order, and the first that cannot be is named.
+fn opened(rt: HostRuntime, events: &[u8], far: &[u8], near: &[u8], log: &[u8]) -> Option<Judged> {
+    let events = named::open(rt, b"check", events)?;
+    let far = named::open(rt, b"check", far)?;
+    let near = named::open(rt, b"check", near)?;
+    let log = named::open(rt, b"check", log)?;
+    Some(Judged {
+        events,
+        far,
+        near,
+        log,
+    })
+}
+
+fn checked(rt: HostRuntime, events: &[u8], far: &[u8], near: &[u8], log: &[u8]) -> u64 {
+    let Some(open) = opened(rt, events, far, near, log) else {
         return 1;
-    }
-    let f = named::open(b"check", far);
-    if f < 0 {
-        return 1;
-    }
-    let n = named::open(b"check", near);
-    if n < 0 {
-        return 1;
-    }
-    let l = named::open(b"check", log);
-    if l < 0 {
-        return 1;
-    }
+    };
+    let files = Files {
+        events: Some(&open.events),
+        far: Some(&open.far),
+        near: Some(&open.near),
+    };
     let outcome = replay_host::run(
-        e,
-        f,
-        n,
+        rt.stdout(),
+        &files,
+        Some(&open.log),
         whole_files(),
-        Goal::Check(l, u64::MAX),
-        told::watched(),
+        Goal::Check(u64::MAX),
+        told::watched(rt.stderr()),
     );
-    status_of(outcome, events, far, near, log)
+    status_of(rt.stderr(), outcome, events, far, near, log)
 }
 
-fn named_files() -> u64 {
-    let mut events = io::buffer();
-    let mut far = io::buffer();
-    let mut near = io::buffer();
-    let mut log = io::buffer();
-    let e = named::argument(b"check", 1, &mut events);
-    let f = named::argument(b"check", 2, &mut far);
-    let n = named::argument(b"check", 3, &mut near);
-    let l = named::argument(b"check", 4, &mut log);
-    checked(&events[..e], &far[..f], &near[..n], &log[..l])
+fn named_files(rt: HostRuntime) -> u64 {
+    let mut events = rooms::name();
+    let mut far = rooms::name();
+    let mut near = rooms::name();
+    let mut log = rooms::name();
+    let e = named::argument(rt, b"check", 1, &mut events);
+    let f = named::argument(rt, b"check", 2, &mut far);
+    let n = named::argument(rt, b"check", 3, &mut near);
+    let l = named::argument(rt, b"check", 4, &mut log);
+    checked(rt, &events[..e], &far[..f], &near[..n], &log[..l])
 }
 
-fn main() {
-    if os::arg_count() != 5 {
+fn run(rt: HostRuntime) -> u64 {
+    if named::words(&rt) != 5 {
         named::say(
+            rt.stderr(),
             b"check",
             b"three files make a recording, and a fourth is the log: EVENTS FAR NEAR LOG",
         );
-        told::status(2);
-        return;
+        return 2;
     }
-    let status = named_files();
-    if status != 0 {
-        told::status(status);
-    }
+    named_files(rt)
+}
+
+fn main(rt: HostRuntime) -> ExitCode {
+    told::status(run(rt))
 }

@@ -3,22 +3,25 @@ ghost use Rattle.std.specs.Prelude.{◌≡◌, true, ◌<◌, length};
 ghost use Rattle.convert_side.specs.Side.{Fits};
 
 use convert_side::Side;
+use pipes::reason::Reason;
+use pipes::rooms;
 use recording::{Admission, Header, Lengths, Start, Used};
 use recording_convert::Direction;
+use std::fs::File;
 
 // Whole: it may be converted. The next four say why not, the first two of the header. Unread: the events could not be read.
-#[derive(Drop)]
+#[derive(Clone, Copy)]
 pub enum Judgement {
     Whole(Header),
     BadHeader,
     OtherForm,
     BadEvent(u32),
     BadTotals,
-    Unread,
+    Unread(Reason),
 }
 
 // `lacks`: the event of that number is bad, or has not its samples.
-#[derive(Drop)]
+#[derive(Clone, Copy)]
 struct Judging {
     side: Side,
     number: u32,
@@ -26,14 +29,11 @@ struct Judging {
     lacks: bool,
 }
 
-// No output is open in this pass.
-const NO_FILE: i32 = -1;
-
-fn first(events: i32) -> Judging
+fn first() -> Judging
     ensures { Fits result.side }
 {
     Judging {
-        side: convert_side::fresh(events, u64::MAX, NO_FILE),
+        side: convert_side::fresh(u64::MAX),
         number: 0,
         used: Used { far: 0, near: 0 },
         lacks: false,
@@ -74,11 +74,11 @@ fn admission(header: Header, lengths: Lengths, used: Used, side: Side, room: &[u
 }
 
 // One event.
-fn turn(header: Header, lengths: Lengths, j: Judging, room: &mut [u8]) -> Judging
+fn turn(header: Header, lengths: Lengths, j: Judging, events: &File, room: &mut [u8]) -> Judging
     requires { (Fits j.side) × (length room.old ≡ 65536) }
     ensures { Fits result.side }
 {
-    let side = convert_side::fill(j.side, 16, room);
+    let side = convert_side::fill(j.side, 16, Some(events), room);
     match admission(header, lengths, j.used, side, room) {
         Admission::Lacking => lacking(j, side),
         Admission::Enough(used) => judged(j, convert_side::past(side, 16), used),
@@ -98,13 +98,13 @@ fn goes_on(number: u32, events: u32, lacks: bool) -> bool
 }
 
 // Event by event.
-fn all(header: Header, lengths: Lengths, events: i32, room: &mut [u8]) -> Judging
+fn all(header: Header, lengths: Lengths, events: &File, room: &mut [u8]) -> Judging
     requires { length room.old ≡ 65536 }
 {
-    let mut j = first(events);
+    let mut j = first();
     let mut number: u32 = 0;
     while goes_on(number, header.events, j.lacks) {
-        j = turn(header, lengths, j, room);
+        j = turn(header, lengths, j, events, room);
         number = number + 1;
     }
     j
@@ -112,7 +112,7 @@ fn all(header: Header, lengths: Lengths, events: i32, room: &mut [u8]) -> Judgin
 
 fn told_of(header: Header, j: Judging) -> Judgement {
     if j.side.input.failed {
-        return Judgement::Unread;
+        return Judgement::Unread(j.side.input.reason);
     }
     if j.lacks {
         return Judgement::BadEvent(j.number);
@@ -127,7 +127,7 @@ fn judge_events(
     direction: Direction,
     header: Header,
     lengths: Lengths,
-    events: i32,
+    events: &File,
     room: &mut [u8],
 ) -> Judgement
     requires { length room.old ≡ 65536 }
@@ -139,12 +139,12 @@ fn judge_events(
     Judgement::OtherForm
 }
 
-fn judge_in(direction: Direction, events: i32, lengths: Lengths, room: &mut [u8]) -> Judgement
+fn judge_in(direction: Direction, events: &File, lengths: Lengths, room: &mut [u8]) -> Judgement
     requires { length room.old ≡ 65536 }
 {
-    let head = recording_head::read(events, u64::MAX, room);
+    let head = recording_head::read(Some(events), u64::MAX, room);
     if head.failed {
-        return Judgement::Unread;
+        return Judgement::Unread(head.reason);
     }
     match recording_head::opened(head, room) {
         Start::BadHeader => Judgement::BadHeader,
@@ -153,7 +153,7 @@ fn judge_in(direction: Direction, events: i32, lengths: Lengths, room: &mut [u8]
 }
 
 // Judges the recording whose events stand in an open file, from where it stands, and whose sample inputs have these lengths.
-pub fn judge(direction: Direction, events: i32, lengths: Lengths) -> Judgement {
-    let mut room = io::large_buffer();
+pub fn judge(direction: Direction, events: &File, lengths: Lengths) -> Judgement {
+    let mut room = rooms::large();
     judge_in(direction, events, lengths, &mut room)
 }

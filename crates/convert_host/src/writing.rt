@@ -3,22 +3,23 @@ ghost use Rattle.std.specs.Prelude.{◌≡◌, true, ◌<◌, length};
 ghost use Rattle.convert_side.specs.Side.{Fits};
 ghost use Rattle.convert_host.specs.Work.{AllFit, Rooms};
 
-use convert_side::{Side, Stored};
-use pipes::named;
+use convert_side::{Ends, Side, Stored};
+use pipes::{named, rooms};
 use recording::{Admission, Entry, Event, Form, Header, Lengths, Used};
 use recording_convert::Direction;
 use recording_store::Storing;
+use std::fs::File;
 
 // Three open files.
-#[derive(Drop)]
-pub struct Files {
-    pub events: i32,
-    pub far: i32,
-    pub near: i32,
+#[derive(Clone, Copy)]
+pub struct Files<'a> {
+    pub events: &'a File,
+    pub far: &'a File,
+    pub near: &'a File,
 }
 
 // Going: so far all was converted. FarStrange, NearStrange: that sample of the event is no sample of the other kind. Changed: an input is not what it was in the first pass.
-#[derive(Drop)]
+#[derive(Clone, Copy)]
 pub enum State {
     Going,
     FarStrange(u32),
@@ -26,7 +27,7 @@ pub enum State {
     Changed,
 }
 
-#[derive(Drop)]
+#[derive(Clone, Copy)]
 pub struct Work {
     pub events: Side,
     pub far: Side,
@@ -36,8 +37,28 @@ pub struct Work {
     pub state: State,
 }
 
-// No file is open under this number, so that a read from it fails.
-const NO_FILE: i32 = -1;
+// The files of the three sides.
+#[derive(Clone, Copy)]
+struct Sides<'a> {
+    events: Ends<'a>,
+    far: Ends<'a>,
+    near: Ends<'a>,
+}
+
+fn from_and_to<'a>(from: &'a File, to: &'a File) -> Ends<'a> {
+    Ends {
+        from: Some(from),
+        to: Some(to),
+    }
+}
+
+fn sides_of<'a>(from: Files<'a>, to: Files<'a>) -> Sides<'a> {
+    Sides {
+        events: from_and_to(from.events, to.events),
+        far: from_and_to(from.far, to.far),
+        near: from_and_to(from.near, to.near),
+    }
+}
 
 // Rooms are lent in pairs, one of the input and one of the output: er and eo for the events, fr and fo for far samples, nr and no for near ones.
 
@@ -189,7 +210,7 @@ fn near_done(work: Work, stored: Stored, used: Used, er: &[u8], eo: &mut [u8]) -
 }
 
 // The samples that an event has.
-#[derive(Drop)]
+#[derive(Clone, Copy)]
 enum Samples {
     OfFar(u32),
     OfNear(u32),
@@ -221,6 +242,7 @@ fn event_turn(
     work: Work,
     samples: Samples,
     used: Used,
+    sides: &Sides<'_>,
     er: &[u8],
     eo: &mut [u8],
     fr: &mut [u8],
@@ -234,14 +256,14 @@ fn event_turn(
     match samples {
         Samples::OfFar(count) => far_done(
             work,
-            convert_side::convert(direction, form, work.far, count, fr, fo),
+            convert_side::convert(direction, form, work.far, &sides.far, count, fr, fo),
             used,
             er,
             eo,
         ),
         Samples::OfNear(count) => near_done(
             work,
-            convert_side::convert(direction, form, work.near, count, nr, no),
+            convert_side::convert(direction, form, work.near, &sides.near, count, nr, no),
             used,
             er,
             eo,
@@ -256,6 +278,7 @@ fn admitted_turn(
     work: Work,
     event: Event,
     admission: Admission,
+    sides: &Sides<'_>,
     er: &[u8],
     eo: &mut [u8],
     fr: &mut [u8],
@@ -275,6 +298,7 @@ fn admitted_turn(
             work,
             samples_of(event),
             used,
+            sides,
             er,
             eo,
             fr,
@@ -286,11 +310,16 @@ fn admitted_turn(
 }
 
 // The next entry is at hand, if it is there, and there is room for it.
-fn ready(work: Work, er: &mut [u8], eo: &[u8]) -> Work
+fn ready(work: Work, files: &Ends<'_>, er: &mut [u8], eo: &[u8]) -> Work
     requires { (AllFit work) × (length er.old ≡ 65536) × (length eo.now ≡ 65536) }
     ensures { AllFit result }
 {
-    let events = convert_side::make_room(convert_side::fill(work.events, 16, er), 16, eo);
+    let events = convert_side::make_room(
+        convert_side::fill(work.events, 16, files.from, er),
+        16,
+        files.to,
+        eo,
+    );
     with_events(work, events)
 }
 
@@ -300,6 +329,7 @@ fn turn(
     header: Header,
     lengths: Lengths,
     before: Work,
+    sides: &Sides<'_>,
     er: &mut [u8],
     eo: &mut [u8],
     fr: &mut [u8],
@@ -310,7 +340,7 @@ fn turn(
     requires { (AllFit before) × (Rooms er.old eo.old fr.old fo.old nr.old no.old) }
     ensures { AllFit result }
 {
-    let work = ready(before, er, eo);
+    let work = ready(before, &sides.events, er, eo);
     match entry_at(work.events, er) {
         Entry::Bad => stopped(work, State::Changed),
         Entry::Good(event) => admitted_turn(
@@ -319,6 +349,7 @@ fn turn(
             work,
             event,
             recording::admit(header, lengths, work.used, event),
+            sides,
             er,
             eo,
             fr,
@@ -354,6 +385,7 @@ fn all(
     header: Header,
     lengths: Lengths,
     first: Work,
+    sides: &Sides<'_>,
     er: &mut [u8],
     eo: &mut [u8],
     fr: &mut [u8],
@@ -367,7 +399,9 @@ fn all(
     let mut work = first;
     let mut number: u32 = 0;
     while goes_on(number, header.events, work) {
-        work = turn(direction, header, lengths, work, er, eo, fr, fo, nr, no);
+        work = turn(
+            direction, header, lengths, work, sides, er, eo, fr, fo, nr, no,
+        );
         number = number + 1;
     }
     work
@@ -376,12 +410,12 @@ fn all(
 // ---- from the header to the end
 
 // What is held is written.
-fn drained(work: Work, eo: &[u8], fo: &[u8], no: &[u8]) -> Work
+fn drained(work: Work, sides: &Sides<'_>, eo: &[u8], fo: &[u8], no: &[u8]) -> Work
     requires { (AllFit work) × (length eo.now ≡ 65536) × (length fo.now ≡ 65536) × (length no.now ≡ 65536) }
 {
-    let events = convert_side::drain(work.events, eo);
-    let far = convert_side::drain(work.far, fo);
-    let near = convert_side::drain(work.near, no);
+    let events = convert_side::drain(work.events, sides.events.to, eo);
+    let far = convert_side::drain(work.far, sides.far.to, fo);
+    let near = convert_side::drain(work.near, sides.near.to, no);
     let state = work.state;
     let used = work.used;
     Work {
@@ -395,27 +429,27 @@ fn drained(work: Work, eo: &[u8], fo: &[u8], no: &[u8]) -> Work
 }
 
 // A file from that place on, of which no byte past the announced end is read.
-fn side(from: i32, at: u64, most: u64, to: i32) -> Side
+fn side(from: &File, at: u64, most: u64) -> Side
     ensures { Fits result }
 {
-    if named::go_to(from, at) {
-        return convert_side::fresh(from, most, to);
+    match named::go_to(from, at) {
+        Ok(()) => convert_side::fresh(most),
+        Err(why) => convert_side::unreadable(why),
     }
-    convert_side::fresh(NO_FILE, most, to)
 }
 
-fn first(header: Header, from: Files, to: Files, held: usize) -> Work
+fn first(header: Header, from: Files<'_>, held: usize) -> Work
     ensures { AllFit result }
 {
     let form = header.form;
     let offset = recording::offset_of(form) as u64;
     let far = recording::bytes_of(form, header.far);
     let near = recording::bytes_of(form, header.near);
-    let entries = side(from.events, offset, 16 * header.events as u64, to.events);
+    let entries = side(from.events, offset, 16 * header.events as u64);
     Work {
         events: convert_side::holds(entries, held),
-        far: side(from.far, 0, far, to.far),
-        near: side(from.near, 0, near, to.near),
+        far: side(from.far, 0, far),
+        near: side(from.near, 0, near),
         number: 0,
         used: Used { far: 0, near: 0 },
         state: State::Going,
@@ -426,8 +460,8 @@ fn write_in(
     direction: Direction,
     header: Header,
     lengths: Lengths,
-    from: Files,
-    to: Files,
+    from: Files<'_>,
+    to: Files<'_>,
     er: &mut [u8],
     eo: &mut [u8],
     fr: &mut [u8],
@@ -438,11 +472,13 @@ fn write_in(
     requires { Rooms er.old eo.old fr.old fo.old nr.old no.old }
 {
     let held = recording_store::write_header(direction, header, eo);
+    let sides = sides_of(from, to);
     let last = all(
         direction,
         header,
         lengths,
-        first(header, from, to, held),
+        first(header, from, held),
+        &sides,
         er,
         eo,
         fr,
@@ -450,7 +486,7 @@ fn write_in(
         nr,
         no,
     );
-    drained(last, eo, fo, no)
+    drained(last, &sides, eo, fo, no)
 }
 
 // Converts a whole recording of three open files into three others, and tells where it stands at the end.
@@ -458,15 +494,15 @@ pub fn write(
     direction: Direction,
     header: Header,
     lengths: Lengths,
-    from: Files,
-    to: Files,
+    from: Files<'_>,
+    to: Files<'_>,
 ) -> Work {
-    let mut er = io::large_buffer();
-    let mut eo = io::large_buffer();
-    let mut fr = io::large_buffer();
-    let mut fo = io::large_buffer();
-    let mut nr = io::large_buffer();
-    let mut no = io::large_buffer();
+    let mut er = rooms::large();
+    let mut eo = rooms::large();
+    let mut fr = rooms::large();
+    let mut fo = rooms::large();
+    let mut nr = rooms::large();
+    let mut no = rooms::large();
     write_in(
         direction, header, lengths, from, to, &mut er, &mut eo, &mut fr, &mut fo, &mut nr, &mut no,
     )

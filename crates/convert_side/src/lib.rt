@@ -1,45 +1,70 @@
 // One file of a recording on its way into another: the bytes at hand of the input, and what is held for the output until there is enough of it to be written. Proved: it is safe
 // and ends, and the samples of an event are held for the output all or not at all. What the system reads and writes is trusted by trial.
+#![tactic(auto)]
+
 ghost use Rattle.std.specs.Prelude.{◌≡◌, true, ◌+◌, ◌≤◌, ◌<◌, length};
 ghost use Rattle.pipes.specs.Window.{Within};
 ghost use Rattle.convert_side.specs.Side.{Fits};
 
+use pipes::reason::Reason;
 use pipes::window::Window;
-use pipes::{told, window};
+use pipes::{reason, told, window};
 use recording::Form;
 use recording_convert::Direction;
 use recording_store::Storing;
+use std::fs::File;
 
-// The first `held` bytes of a room go to `fd`. `good`: every write was done.
-#[derive(Drop)]
+// The first `held` bytes of a room are for the output. `good`: every write was done; `reason`: why the last was not.
+#[derive(Clone, Copy)]
 pub struct Out {
-    pub fd: i32,
     pub held: usize,
     pub good: bool,
+    pub reason: Reason,
 }
 
-#[derive(Drop)]
+// The open files of a side. Of one that is not there every read fails, and every write to it.
+#[derive(Clone, Copy)]
+pub struct Ends<'a> {
+    pub from: Option<&'a File>,
+    pub to: Option<&'a File>,
+}
+
+#[derive(Clone, Copy)]
 pub struct Side {
     pub input: Window,
     pub out: Out,
 }
 
 // A side, and what became of an event's samples.
-#[derive(Drop)]
+#[derive(Clone, Copy)]
 pub struct Stored {
     pub side: Side,
     pub storing: Storing,
 }
 
-pub fn fresh(from: i32, most: u64, to: i32) -> Side
+pub fn fresh(most: u64) -> Side
+    ensures { Fits result }
+{
+    opening(window::fresh(most))
+}
+
+// A side whose input has failed before any read, and why.
+pub fn unreadable(why: Reason) -> Side
+    ensures { Fits result }
+{
+    opening(window::unreadable(why))
+}
+
+fn opening(input: Window) -> Side
+    requires { Within input }
     ensures { Fits result }
 {
     Side {
-        input: window::fresh(from, most),
+        input,
         out: Out {
-            fd: to,
             held: 0,
             good: true,
+            reason: reason::none(),
         },
     }
 }
@@ -57,26 +82,26 @@ fn wants(w: Window, need: usize) -> bool
 }
 
 // Reads until so many bytes are at hand, or no more come.
-fn filled(w: Window, need: usize, room: &mut [u8]) -> Window
+fn filled(w: Window, need: usize, from: Option<&File>, room: &mut [u8]) -> Window
     requires { (Within w) × (length room.old ≡ 65536) }
     ensures { Within result }
 {
     let mut next = w;
     while wants(next, need) {
-        next = window::refill(next, room);
+        next = window::refill(next, from, room);
     }
     next
 }
 
 // The same of a side.
-pub fn fill(side: Side, need: usize, room: &mut [u8]) -> Side
+pub fn fill(side: Side, need: usize, from: Option<&File>, room: &mut [u8]) -> Side
     requires { (Fits side) × (length room.old ≡ 65536) }
     ensures { Fits result }
 {
     let input = side.input;
     let out = side.out;
     Side {
-        input: filled(input, need, room),
+        input: filled(input, need, from, room),
         out,
     }
 }
@@ -103,33 +128,40 @@ fn both(a: bool, b: bool) -> bool {
     false
 }
 
+fn written(to: Option<&File>, text: &[u8]) -> Result<(), Reason> {
+    match to {
+        Some(file) => told::write(file, text),
+        None => Err(reason::no_file()),
+    }
+}
+
 // What is held is written.
-pub fn drain(side: Side, room: &[u8]) -> Side
+pub fn drain(side: Side, to: Option<&File>, room: &[u8]) -> Side
     requires { (Fits side) × (length room.now ≡ 65536) }
     ensures { (Fits result) × (result.out.held ≡ 0) }
 {
     let input = side.input;
     let out = side.out;
     let held = out.held;
-    let done = told::drain(out.fd, &room[..held], false);
+    let done = written(to, &room[..held]);
     Side {
         input,
         out: Out {
-            fd: out.fd,
             held: 0,
-            good: both(out.good, done),
+            good: both(out.good, done.is_ok()),
+            reason: reason::behind(out.reason, done),
         },
     }
 }
 
 // Room for so many bytes, and where there is none what is held is written first.
-pub fn make_room(side: Side, n: usize, room: &[u8]) -> Side
+pub fn make_room(side: Side, n: usize, to: Option<&File>, room: &[u8]) -> Side
     requires { (Fits side) × (length room.now ≡ 65536) }
     ensures { Fits result }
 {
     let out = side.out;
     if room.len() - out.held < n {
-        return drain(side, room);
+        return drain(side, to, room);
     }
     side
 }
@@ -146,18 +178,18 @@ pub fn holds(side: Side, n: usize) -> Side
         return Side {
             input,
             out: Out {
-                fd: out.fd,
                 held,
                 good: false,
+                reason: out.reason,
             },
         };
     }
     Side {
         input,
         out: Out {
-            fd: out.fd,
             held: held + n,
             good: out.good,
+            reason: out.reason,
         },
     }
 }
@@ -194,6 +226,7 @@ pub fn convert(
     direction: Direction,
     form: Form,
     side: Side,
+    ends: &Ends<'_>,
     count: u32,
     from: &mut [u8],
     to: &mut [u8],
@@ -202,7 +235,7 @@ pub fn convert(
     ensures { Fits result.side }
 {
     let need = recording::bytes_of(form, count) as usize;
-    let ready = make_room(fill(side, need, from), 16384, to);
+    let ready = make_room(fill(side, need, ends.from, from), 16384, ends.to, to);
     let storing = store_behind(direction, ready, count, from, to);
     after(ready, storing, need)
 }

@@ -1,9 +1,12 @@
 // Takes every 16-bit number to its f32 and back, and tries f32 patterns that are no number's: those beside the numbers' own, beside the powers of two, and the strange
 // ones. The file `stdout` holds how many of them are numbers, and the hash of all 65,536 patterns, as tests/convert/numbers.py tells them from whole numbers alone.
-use libc::STDOUT_FILENO;
+#![tactic(auto)]
+
+use pipes::told;
 use recording_convert::Direction;
 use recording_shorts::Short;
 use recording_store::Storing;
+use std::io::Stdout;
 use vectors::Tally;
 
 // -0.0, 1.0 and what stands beside it and beside -1.0, the smallest and the largest numbers of either sign, both infinities, and NaNs.
@@ -83,8 +86,8 @@ fn try_pattern(bits: u32, t: Tally) -> Tally {
 
 // ---- all of them
 
-fn try_numbers() -> Tally {
-    let mut tally = Tally::new();
+fn try_numbers(out: Stdout) -> Tally {
+    let mut tally = Tally::new(out);
     let mut n: u32 = 0;
     while n < 65536 {
         tally = tally.saw(false, goes_both_ways((n % 65536) as u16));
@@ -103,8 +106,8 @@ fn try_beside(bits: u64, t: Tally) -> Tally {
     try_pattern(behind(bits, 1), try_pattern(behind(bits, 0xffff_ffff), t))
 }
 
-fn try_neighbours() -> Tally {
-    let mut tally = Tally::new();
+fn try_neighbours(out: Stdout) -> Tally {
+    let mut tally = Tally::new(out);
     let mut n: u32 = 0;
     while n < 65536 {
         tally = try_beside(pattern_of((n % 65536) as u16) as u64, tally);
@@ -119,8 +122,8 @@ fn try_power(field: u32, t: Tally) -> Tally {
     try_beside(bits, try_pattern(behind(bits, 0), t))
 }
 
-fn try_powers() -> Tally {
-    let mut tally = Tally::new();
+fn try_powers(out: Stdout) -> Tally {
+    let mut tally = Tally::new(out);
     let mut field: u32 = 0;
     while field < 512 {
         tally = try_power(field, tally);
@@ -129,8 +132,8 @@ fn try_powers() -> Tally {
     tally
 }
 
-fn try_strange(patterns: &[u32]) -> Tally {
-    let mut tally = Tally::new();
+fn try_strange(out: Stdout, patterns: &[u32]) -> Tally {
+    let mut tally = Tally::new(out);
     let mut i = 0;
     while i < patterns.len() {
         tally = try_pattern(patterns[i], tally);
@@ -149,18 +152,19 @@ fn quotients(out: &mut [f32]) {
     }
 }
 
-fn report_hash() {
+fn report_hash(out: Stdout) {
     let mut all = [0.0f32; 65536];
     quotients(&mut all);
-    io::write_all(STDOUT_FILENO, b"the patterns of all numbers: hash ");
-    io::print_decimal(STDOUT_FILENO, vectors::patterns::hash32(&all));
-    io::write_all(STDOUT_FILENO, b"\n");
+    told::put(out, b"the patterns of all numbers: hash ");
+    told::put_number(out, vectors::patterns::hash32(&all));
+    told::put(out, b"\n");
 }
 
-fn main() {
-    try_numbers().report(b"numbers both ways");
-    try_neighbours().report_main(b"patterns beside them", b"numbers");
-    try_powers().report_main(b"powers of two and patterns beside them", b"numbers");
-    try_strange(&STRANGE).report_main(b"strange patterns", b"numbers");
-    report_hash();
+fn main(rt: HostRuntime) {
+    let out = rt.stdout();
+    try_numbers(out).report(b"numbers both ways");
+    try_neighbours(out).report_main(b"patterns beside them", b"numbers");
+    try_powers(out).report_main(b"powers of two and patterns beside them", b"numbers");
+    try_strange(out, &STRANGE).report_main(b"strange patterns", b"numbers");
+    report_hash(out);
 }

@@ -7,7 +7,7 @@ use units::Samples;
 use vectors::buffers;
 
 // The state after a call, and the answer as a record has it.
-#[derive(Drop)]
+#[derive(Clone, Copy)]
 pub struct Done {
     pub fine: Fine,
     pub answer: u64,

@@ -1,5 +1,7 @@
 // Replays stored calls of the fine stage against the answers of the unchanged Rust, and writes how many were tried and how many differ.
 // tests/fine/README.md says how the files were made and what a record holds.
+#![tactic(auto)]
+
 mod records; // a record, and its call
 mod host; // the far window and the array that the host holds
 mod calls; // the calls of the fine stage up to the peak rule
@@ -10,10 +12,13 @@ ghost use Rattle.std.specs.Prelude.{◌≡◌, length};
 
 use fine::Fine;
 use peak::Searched;
+use pipes::rooms;
 use records::Call;
+use std::fs::File;
+use std::io::Stdout;
 use vectors::Tally;
 
-#[derive(Drop)]
+#[derive(Clone, Copy)]
 struct Run {
     fine: Fine,
     tally: Tally,
@@ -26,7 +31,7 @@ fn answered(
     retained: &mut [f32; 65536],
     far: &mut [f32; 65536],
     array: &mut [f32; 65536],
-    arrays: i32,
+    arrays: Option<&File>,
     call: Call,
 ) -> Searched {
     host::write(&mut *far, &mut *array, call);
@@ -56,7 +61,7 @@ fn try_call(
     retained: &mut [f32; 65536],
     far: &mut [f32; 65536],
     array: &mut [f32; 65536],
-    arrays: i32,
+    arrays: Option<&File>,
     bytes: &[u8; 136],
 ) -> Run {
     let fine = run.fine;
@@ -79,23 +84,23 @@ fn next_call(
     retained: &mut [f32; 65536],
     far: &mut [f32; 65536],
     array: &mut [f32; 65536],
-    calls: i32,
-    arrays: i32,
+    calls: Option<&File>,
+    arrays: Option<&File>,
 ) -> Run {
     let mut record = blank_record();
-    let n = io::read_full(calls, &mut record);
+    let n = rooms::fill(calls, &mut record);
     if n < 136 {
         return run;
     }
     try_call(run, near, retained, far, array, arrays, &record)
 }
 
-fn start() -> Run {
+fn start(out: Stdout) -> Run {
     let made = Fine::new(1);
     let fine = made.fine;
     Run {
         fine,
-        tally: Tally::new(),
+        tally: Tally::new(out),
     }
 }
 
@@ -105,10 +110,11 @@ fn try_calls(
     retained: &mut [f32; 65536],
     far: &mut [f32; 65536],
     array: &mut [f32; 65536],
-    calls: i32,
-    arrays: i32,
+    calls: Option<&File>,
+    arrays: Option<&File>,
+    out: Stdout,
 ) -> Tally {
-    let mut run = start();
+    let mut run = start(out);
     let mut left: u32 = 65536;
     while 0 < left {
         left = left - 1;
@@ -130,7 +136,7 @@ fn floats65536() -> [f32; 65536] {
 }
 
 // Buffers for the longest span.
-fn try_files(calls: i32, arrays: i32) -> Tally {
+fn try_files(calls: Option<&File>, arrays: Option<&File>, out: Stdout) -> Tally {
     let mut near = floats65536();
     let mut retained = floats65536();
     let mut far = floats65536();
@@ -142,22 +148,20 @@ fn try_files(calls: i32, arrays: i32) -> Tally {
         &mut array,
         calls,
         arrays,
+        out,
     )
 }
 
-fn main() {
-    let calls = os::open_read(b"calls");
-    if calls < 0 {
-        os::fail(b"calls");
-        return;
+// Both files, or the first that is missing is named.
+fn opened(rt: HostRuntime) -> Option<(File, File)> {
+    let calls = vectors::files::open(rt, b"calls")?;
+    let arrays = vectors::files::open(rt, b"arrays")?;
+    Some((calls, arrays))
+}
+
+fn main(rt: HostRuntime) {
+    if let Some((calls, arrays)) = opened(rt) {
+        let tally = try_files(Some(&calls), Some(&arrays), rt.stdout());
+        tally.report_main(b"calls", b"locks");
     }
-    let arrays = os::open_read(b"arrays");
-    if arrays < 0 {
-        os::fail(b"arrays");
-        return;
-    }
-    let tally = try_files(calls, arrays);
-    tally.report_main(b"calls", b"locks");
-    libc::close(arrays);
-    libc::close(calls);
 }

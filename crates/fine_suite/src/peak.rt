@@ -4,11 +4,12 @@ use crate::calls::Done;
 use crate::records::Call;
 use fine::{Fine, Positions};
 use fine_peak::{Lock, PeakAnswer};
+use std::fs::File;
 use units::Samples;
 use vectors::buffers;
 
 // The state and the answer after the peak rule, and the lock that it gave, if it did. Where it gave none, the lock holds only where the peak stands.
-#[derive(Drop)]
+#[derive(Clone, Copy)]
 pub struct Searched {
     pub fine: Fine,
     pub answer: u64,
@@ -51,12 +52,12 @@ fn search(fine: Fine, array: &[f32], answer: u64) -> Searched {
 }
 
 // The next stored array becomes the host's.
-fn read_part(arrays: i32, array: &mut [f32], span: u32) {
+fn read_part(arrays: Option<&File>, array: &mut [f32], span: u32) {
     let n = buffers::at_most(span as u64 + 1, array.len());
     buffers::read32(arrays, &mut array[..n]);
 }
 
-pub fn after(done: Done, arrays: i32, array: &mut [f32; 65536], call: Call) -> Searched {
+pub fn after(done: Done, arrays: Option<&File>, array: &mut [f32; 65536], call: Call) -> Searched {
     let fine = done.fine;
     if call.kind == 8 {
         return search(fine, array, 0);

@@ -1,17 +1,21 @@
 // Runs the stored pairs of patterns, made by libmpfr, through narrowing and the square root, and writes how many were tried and how many differ.
+#![tactic(auto)]
+
 ghost use Rattle.std.specs.Prelude.{◌+◌, ◌≤◌, length};
 
-use libc::STDOUT_FILENO;
+use pipes::{named, rooms, told};
+use std::fs::{File, OpenOptions};
+use std::io::Stdout;
 
 // Pairs tried so far, and those whose answer is another than the one stored.
-#[derive(Drop)]
+#[derive(Clone, Copy)]
 struct Tally {
     tried: u64,
     different: u64,
 }
 
 // A tally, and whether the file may have more.
-#[derive(Drop)]
+#[derive(Clone, Copy)]
 struct Step {
     tally: Tally,
     more: bool,
@@ -42,18 +46,18 @@ fn answer(narrows: bool, pattern: u64) -> u64 {
 }
 
 // A line for a pair that differs.
-fn show(pattern: u64, stored: u64, got: u64) {
-    io::write_all(STDOUT_FILENO, b"  of ");
-    io::print_hex(STDOUT_FILENO, pattern, 16);
-    io::write_all(STDOUT_FILENO, b": ");
-    io::print_hex(STDOUT_FILENO, got, 1);
-    io::write_all(STDOUT_FILENO, b", stored ");
-    io::print_hex(STDOUT_FILENO, stored, 1);
-    io::write_all(STDOUT_FILENO, b"\n");
+fn show(out: Stdout, pattern: u64, stored: u64, got: u64) {
+    told::put(out, b"  of ");
+    told::put_hex(out, pattern, true);
+    told::put(out, b": ");
+    told::put_hex(out, got, false);
+    told::put(out, b", stored ");
+    told::put_hex(out, stored, false);
+    told::put(out, b"\n");
 }
 
 // The first five that differ are shown.
-fn try_pair(narrows: bool, pattern: u64, stored: u64, t: Tally) -> Tally {
+fn try_pair(out: Stdout, narrows: bool, pattern: u64, stored: u64, t: Tally) -> Tally {
     let got = answer(narrows, pattern);
     let tried = answers::next_long_count(t.tried);
     if got == stored {
@@ -63,7 +67,7 @@ fn try_pair(narrows: bool, pattern: u64, stored: u64, t: Tally) -> Tally {
         };
     }
     if t.different < 5 {
-        show(pattern, stored, got);
+        show(out, pattern, stored, got);
     }
     Tally {
         tried,
@@ -71,27 +75,33 @@ fn try_pair(narrows: bool, pattern: u64, stored: u64, t: Tally) -> Tally {
     }
 }
 
-fn try_block(narrows: bool, block: &[u8], t: Tally) -> Tally {
+fn try_block(out: Stdout, narrows: bool, block: &[u8], t: Tally) -> Tally {
     let mut tally = t;
     let mut left = block.len() / 16;
     let mut at = 0;
     while 0 < left {
         left = left - 1;
-        tally = try_pair(narrows, number(block, at), number(block, at + 8), tally);
+        tally = try_pair(
+            out,
+            narrows,
+            number(block, at),
+            number(block, at + 8),
+            tally,
+        );
         at = at + 16;
     }
     tally
 }
 
-fn next_block(fd: i32, narrows: bool, t: Tally) -> Step {
-    let mut buf = io::large_buffer();
-    let n = io::read_full(fd, &mut buf);
-    let tally = try_block(narrows, &buf[..n], t);
+fn next_block(from: &File, out: Stdout, narrows: bool, t: Tally) -> Step {
+    let mut buf = rooms::large();
+    let n = rooms::fill(Some(from), &mut buf);
+    let tally = try_block(out, narrows, &buf[..n], t);
     Step { tally, more: 0 < n }
 }
 
 // A file of at most 64 blocks.
-fn try_blocks(fd: i32, narrows: bool) -> Tally {
+fn try_blocks(from: &File, out: Stdout, narrows: bool) -> Tally {
     let mut tally = Tally {
         tried: 0,
         different: 0,
@@ -99,7 +109,7 @@ fn try_blocks(fd: i32, narrows: bool) -> Tally {
     let mut left: u32 = 64;
     while 0 < left {
         left = left - 1;
-        let step = next_block(fd, narrows, tally);
+        let step = next_block(from, out, narrows, tally);
         tally = step.tally;
         if !step.more {
             return tally;
@@ -108,23 +118,23 @@ fn try_blocks(fd: i32, narrows: bool) -> Tally {
     tally
 }
 
-fn run(what: &[u8], path: &[u8], narrows: bool) {
-    let fd = os::open_read(path);
-    if fd < 0 {
-        os::fail(path);
-        return;
-    }
-    let t = try_blocks(fd, narrows);
-    libc::close(fd);
-    io::write_all(STDOUT_FILENO, what);
-    io::write_all(STDOUT_FILENO, b": ");
-    io::print_decimal(STDOUT_FILENO, t.tried);
-    io::write_all(STDOUT_FILENO, b" tried, ");
-    io::print_decimal(STDOUT_FILENO, t.different);
-    io::write_all(STDOUT_FILENO, b" different\n");
+fn report(out: Stdout, what: &[u8], t: Tally) {
+    told::put(out, what);
+    told::put(out, b": ");
+    told::put_number(out, t.tried);
+    told::put(out, b" tried, ");
+    told::put_number(out, t.different);
+    told::put(out, b" different\n");
 }
 
-fn main() {
-    run(b"narrowing", b"narrowing.bin", true);
-    run(b"square root", b"square_root.bin", false);
+fn run(rt: HostRuntime, what: &[u8], path: &[u8], narrows: bool) {
+    match named::opened(rt, OpenOptions::new().read(true), path) {
+        Ok(file) => report(rt.stdout(), what, try_blocks(&file, rt.stdout(), narrows)),
+        Err(why) => named::tell(rt.stderr(), path, why),
+    }
+}
+
+fn main(rt: HostRuntime) {
+    run(rt, b"narrowing", b"narrowing.bin", true);
+    run(rt, b"square root", b"square_root.bin", false);
 }

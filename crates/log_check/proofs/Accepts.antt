@@ -1,6 +1,6 @@
 -- What the verdict says: `Same` exactly for the bytes of the log, the last newline or not; else the first wrong line.
 use Prim.Native.Nat.{ℕ, zero, suc}
-use mathlib.Core.Path.{◌≡◌, refl, sym, ap, subst, ◌∙◌}
+use mathlib.Core.Path.{◌≡◌, refl, ap, subst, ◌∙◌}
 use mathlib.Core.Logic.Iff
 use mathlib.Core.Logic.{◌↔◌, ◌⊎◌}
 use mathlib.Core.Bool.{true, false}
@@ -13,7 +13,7 @@ use Rattle.log_lines.specs.declared.Line.{Line}
 use Rattle.log_lines.specs.declared.Line.TheVariants.{Replay, Frame, Cycle, Refused, End, BadHeader, BadEvent, BadTotals}
 use Rattle.log_lines.proofs.Theorems.{no_newline}
 use Rattle.log_text.specs.Text.{newline, empty, plain, lines_of, joined, AllPlain, NoneEmpty}
-use Rattle.log_text.specs.Apart.{Side, Same, At, first_apart, FirstWrong}
+use Rattle.log_text.specs.Apart.{Side, Same, At, FirstWrong}
 use Rattle.log_text.proofs.Text.{lines_exactly}
 use Rattle.log_text.proofs.Apart.{same_exactly}
 use Rattle.log_text.proofs.Apart as lists

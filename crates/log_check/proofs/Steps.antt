@@ -1,11 +1,10 @@
 -- One line of a log held against the next that should come: what it says of the first place where the two differ.
-use Prim.Native.Nat.{ℕ, suc, ◌+◌, ◌≤◌, ◌<◌}
+use Prim.Native.Nat.{ℕ, suc, ◌+◌, ◌<◌}
 use native.Mathlib.Omega.{arith}
-use native.Mathlib.Numerals.{add-one}
 use mathlib.Core.Path.{◌≡◌, refl, sym, ap, subst, ◌∙◌}
 use mathlib.Core.Bool.{Bool, true, false}
 use mathlib.Core.List.{List, [], ◌∷◌, ◌++◌}
-use lib.Dec.{ltb, eqb}
+use lib.Dec.{ltb}
 use lib.ListN.{length, take, drop}
 use lib.Seq.{take-length, drop-length}
 use Rattle.answers.specs.Pick.{pick, pick_true, pick_false, pick_case}
@@ -13,17 +12,16 @@ use Rattle.log_lines.specs.Lines.{text_of}
 use Rattle.log_lines.specs.declared.Line.{Line}
 use Rattle.log_lines.proofs.Answers.{line_short}
 use Rattle.log_text.specs.Text.{same_text, split_into, lines_of}
-use Rattle.log_text.specs.Apart.{Side, Nothing, There, Apart, Same, At, first_apart, front}
+use Rattle.log_text.specs.Apart.{Nothing, There, Same, At, first_apart, front}
 use Rattle.log_text.specs.Cut.{longest, first_newline, cut_at, cut_of, Behind, Tells}
 use Rattle.log_text.specs.declared.Piece.{Piece}
 use Rattle.log_text.specs.declared.Piece.TheVariants as piece
 use Rattle.log_text.proofs.Text.{same_texts}
 use Rattle.log_text.proofs.Newlines.{cut_tells_lem}
 use Rattle.log_hold.specs.Held.{standing, held}
-use Rattle.log_hold.specs.declared.Due.{Due}
 use Rattle.log_hold.specs.declared.Due.TheVariants as due
 use Rattle.log_hold.specs.declared.Stands.{Stands}
-use Rattle.log_hold.specs.declared.Stands.TheVariants.{Right, Wrong, Wants, Over}
+use Rattle.log_hold.specs.declared.Stands.TheVariants.{Right, Wrong, Over}
 
 -- two constructors are never equal: `cc` proves this of them
 clash : {A : Type 0} → ◌≡◌ {A = ℕ} 0 1 → A

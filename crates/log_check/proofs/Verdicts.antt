@@ -9,7 +9,7 @@ use Rattle.log_lines.specs.Lines.{text_of}
 use Rattle.log_lines.specs.declared.Line.{Line}
 use Rattle.log_lines.specs.declared.Line.TheVariants as line
 use Rattle.log_text.specs.Text.{lines_of}
-use Rattle.log_text.specs.Apart.{Side, Nothing, There, Apart, Same, At, first_apart, front}
+use Rattle.log_text.specs.Apart.{Nothing, There, Apart, Same, first_apart}
 use Rattle.log_text.specs.Cut.{Behind}
 use Rattle.log_hold.specs.Held.{held}
 use Rattle.log_hold.specs.declared.Due.TheVariants as due
@@ -21,7 +21,7 @@ use Rattle.replay.specs.Beginning.{beginning, beginning_of}
 use Rattle.replay.specs.Log.{log_of}
 use Rattle.replay.specs.declared.Session.{Session}
 use Rattle.replay.specs.declared.Begun.TheVariants as begun
-use Rattle.replay_stream.specs.Stream.{Piece, short}
+use Rattle.replay_stream.specs.Stream.{Piece}
 use Rattle.replay_stream.specs.Hosts.{Rest, rest, rest_after, Front, NextCall, Noted, opens, Streamed, Streams}
 use Rattle.replay_stream.specs.Hosts as hosts
 use Rattle.replay_stream.specs.declared.Place.{Place}

@@ -1,13 +1,13 @@
 -- A line of the log beside the line that should stand there.
-use Prim.Native.Nat.{ℕ, ◌+◌, ◌≤◌, ◌<◌}
+use Prim.Native.Nat.{ℕ, ◌≤◌, ◌<◌}
 use native.Mathlib.Omega.{arith}
 use mathlib.Core.Path.{◌≡◌, refl, sym, ap, subst, ◌∙◌}
-use mathlib.Core.Bool.{Bool, true, false, true≢false, false≢true}
+use mathlib.Core.Bool.{Bool, true, false, false≢true}
 use mathlib.Core.List.{List, []}
 use lib.Dec.{ltb, eqb}
-use lib.ListN.{length, take, drop}
+use lib.ListN.{length, take}
 use lib.Seq.{take-append_seam}
-use borrow.Author.Tests.{leb-true, leb-false, ltb-true, eqb-false}
+use borrow.Author.Tests.{leb-false, ltb-true, eqb-false}
 use Rattle.answers.specs.Pick.{pick, pick_true, pick_false, pick_case}
 use Rattle.log_lines.specs.Lines.{text_of}
 use Rattle.log_lines.specs.Calls.{fits_into, written, written_out}
@@ -24,7 +24,7 @@ use Rattle.log_hold.specs.Held.{standing, held, wanting}
 use Rattle.log_hold.specs.declared.Due.{Due}
 use Rattle.log_hold.specs.declared.Due.TheVariants as due
 use Rattle.log_hold.specs.declared.Stands.{Stands}
-use Rattle.log_hold.specs.declared.Stands.TheVariants.{Right, Wrong, Wants, Over}
+use Rattle.log_hold.specs.declared.Stands.TheVariants.{Right, Wrong}
 
 -- two constructors are never equal: `cc` proves this of them
 clash : {A : Type 0} → ◌≡◌ {A = ℕ} 0 1 → A

@@ -1,17 +1,16 @@
 -- Reading on until what stands next is known, and what then becomes of the log.
 use Prim.Native.Nat.{ℕ, ◌+◌, ◌-◌, ◌≤◌, min}
 use native.Mathlib.Omega.{arith}
-use mathlib.Core.Path.{◌≡◌, refl, sym, ap, subst, ◌∙◌}
-use mathlib.Core.Bool.{Bool, true, false, true≢false}
-use mathlib.Core.List.{List, [], ◌∷◌, ◌++◌, append_assoc}
-use lib.ListN.{length, drop, length-append}
+use mathlib.Core.Path.{◌≡◌, sym, ap, subst, ◌∙◌}
+use mathlib.Core.Bool.{true≢false}
+use mathlib.Core.List.{List, [], ◌++◌, append_assoc}
+use lib.ListN.{length-append}
 use Rattle.answers.specs.Numbers.{next_long_count}
 use Rattle.pipes.specs.Window.{Within, at_hand, Grown}
 use Rattle.pipes.specs.declared.window.Window.{Window}
 use Rattle.pipes.proofs.Going.{used_hand}
 use Rattle.log_text.proofs.Text.{append_nothing}
-use Rattle.log_hold.specs.Held.{wanting}
-use Rattle.log_hold.specs.Reading.{seen, Sought, After, Goes, Held}
+use Rattle.log_hold.specs.Reading.{seen, Sought, Goes}
 use Rattle.log_hold.specs.declared.Due.{Due}
 use Rattle.log_hold.specs.declared.Check.{Check}
 use Rattle.log_hold.specs.declared.Stands.{Stands}

@@ -1,5 +1,5 @@
 -- The same while the log is read: some bytes come behind those at hand, until what stands next is known.
-use Rattle.std.specs.Prelude.{ℕ, ◌+◌, ◌≤◌, ◌≡◌, Bool, true, false, List, ◌++◌, length, drop}
+use Rattle.std.specs.Prelude.{ℕ, ◌+◌, ◌≤◌, ◌≡◌, false, List, ◌++◌, length, drop}
 use Rattle.answers.specs.Numbers.{next_long_count}
 use Rattle.pipes.specs.Window.{Within, at_hand, over}
 use Rattle.pipes.specs.declared.window.Window.{Window}

@@ -1,4 +1,6 @@
 // A log held against the lines that should stand in it, line by line. The log is read once, and no further than to its first wrong line.
+#![tactic(auto)]
+
 ghost use Rattle.std.specs.Prelude.{◌≡◌, true, false, ◌+◌, ◌≤◌, eqb, length};
 ghost use Rattle.answers.specs.Pick.{pick};
 ghost use Rattle.log_lines.specs.Lines.{text_of};
@@ -11,16 +13,17 @@ use log_lines::{Line, Written};
 use log_text::Piece;
 use pipes::window;
 use pipes::window::Window;
+use std::fs::File;
 
 // What should stand next.
-#[derive(Drop)]
+#[derive(Clone, Copy)]
 pub enum Due {
     Line(Line),
     Nothing,
 }
 
 // What does. Right: that line, and with its newline it has so many bytes. Wants: more bytes are wanted to know. Over: nothing stands where nothing should.
-#[derive(Drop)]
+#[derive(Clone, Copy)]
 pub enum Stands {
     Right(usize),
     Wrong,
@@ -29,7 +32,7 @@ pub enum Stands {
 }
 
 // Wrong: the line number is that of the first wrong line, where this should stand; what does stand there is next in the log.
-#[derive(Drop)]
+#[derive(Clone, Copy)]
 pub enum Verdict {
     Going,
     Accepted,
@@ -37,7 +40,7 @@ pub enum Verdict {
 }
 
 // How far a log is found right. `line` is the number of the next line, the first being 1.
-#[derive(Drop)]
+#[derive(Clone, Copy)]
 pub struct Check {
     pub log: Window,
     pub line: u64,
@@ -133,21 +136,21 @@ fn wants(stands: Stands) -> bool
 }
 
 // A window, and what stands next in it.
-#[derive(Drop)]
+#[derive(Clone, Copy)]
 pub struct Found {
     pub log: Window,
     pub stands: Stands,
 }
 
 // Reads on until what stands next is known.
-fn seek(log: Window, due: Due, room: &mut [u8]) -> Found
+fn seek(log: Window, due: Due, from: Option<&File>, room: &mut [u8]) -> Found
     requires { (Within log) × (length room.old ≡ 65536) }
     ensures { (Sought due log room.old result.log room.new result.stands) × (wanting result.stands ≡ false) }
 {
     let mut at = log;
     let mut stands = look(at, due, room);
     while wants(stands) {
-        at = window::refill(at, room);
+        at = window::refill(at, from, room);
         stands = look(at, due, room);
     }
     Found { log: at, stands }
@@ -178,12 +181,12 @@ fn after(check: Check, due: Due, log: Window, stands: Stands) -> Check
     }
 }
 
-// What should stand next in the log is held against what does.
-pub fn hold_next(check: Check, due: Due, room: &mut [u8]) -> Check
+// What should stand next in the log, which is read on from the file, is held against what does.
+pub fn hold_next(check: Check, due: Due, from: Option<&File>, room: &mut [u8]) -> Check
     requires { (Within check.log) × (length room.old ≡ 65536) }
     ensures { Held check due room.old result room.new }
 {
-    let found = seek(check.log, due, room);
+    let found = seek(check.log, due, from, room);
     let log = found.log;
     let stands = found.stands;
     after(check, due, log, stands)

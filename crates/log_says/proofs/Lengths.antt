@@ -1,14 +1,14 @@
 -- No text is longer than the room that its writer asks for.
-use Prim.Native.Nat.{ℕ, ◌+◌, ◌≤◌, ◌<◌}
+use Prim.Native.Nat.{ℕ, ◌≤◌, ◌<◌}
 use mathlib.Core.Path.{◌≡◌, refl, sym, ap, ◌∙◌}
-use mathlib.Core.List.{List, [], ◌∷◌, ◌++◌}
+use mathlib.Core.List.{List, [], ◌++◌}
 use native.Mathlib.Omega.{arith}
 use lib.Dec.{leb}
 use lib.ListN.{length, take, length-append}
 use lib.Seq.{sets, length-take-le}
 use borrow.Author.Tests.{le-leb, lt-leb, leb-true, leb-false}
 use Rattle.answers.specs.Pick.{pick, pick_true, pick_false, pick_case}
-use Rattle.log_lines.specs.Text.{ascii, decimal}
+use Rattle.log_lines.specs.Text.{ascii}
 use Rattle.log_lines.specs.Steps.{Put}
 use Rattle.log_lines.specs.declared.Written.TheVariants.{Bytes, NoRoom}
 use Rattle.log_lines.proofs.Laws.{decimal_short}

@@ -1,17 +1,17 @@
 -- Request k: what is said is the text of the verdict, though of a line longer than any of a log only the bytes at hand are held.
-use Prim.Native.Nat.{ℕ, suc, ◌+◌, ◌≤◌, ◌<◌}
+use Prim.Native.Nat.{ℕ, ◌<◌}
 use mathlib.Core.Path.{◌≡◌, refl, sym, ap, subst, ◌∙◌}
-use mathlib.Core.Bool.{Bool, true, false}
-use mathlib.Core.List.{List, [], ◌∷◌, ◌++◌}
+use mathlib.Core.Bool.{Bool}
+use mathlib.Core.List.{List, ◌++◌}
 use native.Mathlib.Omega.{arith}
-use lib.Dec.{leb, ltb, eqb}
-use lib.ListN.{length, take, drop, length-append}
+use lib.Dec.{ltb, eqb}
+use lib.ListN.{length, take, length-append}
 use lib.Seq.{length-take-le, take-take, take-length, take-append-le}
 use borrow.Author.Tests.{lt-leb, ltb-true}
-use Rattle.answers.specs.Pick.{pick, pick_false, pick_case}
+use Rattle.answers.specs.Pick.{pick_false, pick_case}
 use Rattle.log_lines.specs.Text.{ascii}
 use Rattle.log_text.specs.Text.{lines_of}
-use Rattle.log_text.specs.Apart.{Side, Nothing, There, Apart, Same, At, front}
+use Rattle.log_text.specs.Apart.{There, Same, At, front}
 use Rattle.log_text.specs.Cut.{longest, first_newline, cut_at, cut_of, Behind, Tells}
 use Rattle.log_text.specs.declared.Piece.{Piece}
 use Rattle.log_text.specs.declared.Piece.TheVariants as piece

@@ -13,7 +13,7 @@ use Rattle.log_hold.specs.declared.Due.{Due}
 use Rattle.log_hold.specs.declared.Due.TheVariants as due
 use Rattle.log_hold.specs.declared.Verdict.{Verdict}
 use Rattle.log_hold.specs.declared.Verdict.TheVariants as verdict
-use Rattle.log_says.specs.Says.{stands_text, should_text, apart_text}
+use Rattle.log_says.specs.Says.{apart_text}
 
 -- what should stand
 abbrev pub due_side : Due → Side

@@ -1,4 +1,6 @@
 // The verdict on a log, in words: `accepted`, or three lines with the number of the first wrong line, what stands there and what should.
+#![tactic(auto)]
+
 ghost use Rattle.std.specs.Prelude.{◌≡◌, ◌++◌, ◌+◌, ◌≤◌, length};
 ghost use Rattle.log_lines.specs.Lines.{text_of};
 ghost use Rattle.log_lines.specs.Steps.{Put};

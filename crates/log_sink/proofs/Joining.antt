@@ -3,21 +3,20 @@ use Prim.Native.Nat.{ℕ, ◌+◌, ◌-◌, ◌≤◌, ◌<◌}
 use native.Mathlib.Omega.{arith}
 use native.Mathlib.Numerals.{add-one}
 use mathlib.Core.Path.{◌≡◌, refl, sym, ap, ◌∙◌}
-use mathlib.Core.Bool.{Bool, true, false, true≢false, false≢true}
+use mathlib.Core.Bool.{Bool, true, false, false≢true}
 use mathlib.Core.List.{List, [], ◌∷◌, ◌++◌, append_assoc}
-use lib.Dec.{leb}
-use lib.ListN.{length, take, drop, set, length-drop, length-append}
+use lib.ListN.{length, take, drop, set, length-drop}
 use lib.Seq.{take-suc-set, take_all, drop-length, length-take-le, take-append-add, take-append_seam}
-use borrow.Author.Tests.{le-leb, leb-true, leb-false}
-use borrow.Rule.Slice.PartMut.{mid_of, post_of, put_mid, Post-is}
-use Rattle.answers.specs.Pick.{pick, both, either, pick_true, pick_false, pick_case}
+use borrow.Author.Tests.{leb-true, leb-false}
+use borrow.Rule.Slice.PartMut.{mid_of, put_mid, Post-is}
+use Rattle.answers.specs.Pick.{both, either, pick_true, pick_case}
 use Rattle.log_lines.specs.Lines.{text_of}
 use Rattle.log_lines.specs.Calls.{fits_into, written, written_out}
 use Rattle.log_lines.specs.declared.Line.{Line}
 use Rattle.log_lines.specs.declared.Written.{Written}
 use Rattle.log_lines.specs.declared.Written.TheVariants.{Bytes, NoRoom}
 use Rattle.log_lines.proofs.Answers.{line_short}
-use Rattle.log_sink.specs.Sink.{held, line_text, complaint, Joined}
+use Rattle.log_sink.specs.Sink.{complaint, Joined}
 use Rattle.log_sink.specs.declared.Text.{Text}
 
 append_nothing : (l : List ℕ) → l ++ [] ≡ l

@@ -1,33 +1,40 @@
 // The text of a log, held until there is enough of it to be written. Proved: a line joins what is held, whole and once, or the text says that it is no longer good. What is
 // written is trusted by trial.
+#![tactic(auto)]
+
 ghost use Rattle.std.specs.Prelude.{◌≡◌, true, ◌++◌, ◌∷◌, [], ◌+◌, ◌≤◌, ◌<◌, ◌/◌, length, take, drop};
 ghost use Rattle.log_lines.specs.Calls.{written, written_out};
 ghost use Rattle.answers.specs.Pick.{both, either};
 ghost use Rattle.log_sink.specs.Sink.{complaint, Joined, Wrote};
 
 use log_lines::{Line, Written};
-use pipes::told;
+use pipes::reason::Reason;
+use pipes::told::Watch;
+use pipes::{reason, told};
+use std::io::Stdout;
 
-// The first `held` bytes of a room that the caller lends go to `fd`. `good`: every line found room, and every write was done. `amiss`: some line is a refusal or a `bad` line.
+// The first `held` bytes of a room that the caller lends go to `out`. `good`: every line found room, and every write was done; `reason`: why the last write was not. `amiss`: some line is a refusal or a `bad` line.
 // `watched`: a person watches standard error, where progress stands.
-#[derive(Drop)]
+#[derive(Clone, Copy)]
 pub struct Text {
-    pub fd: i32,
-    pub watched: bool,
+    pub out: Stdout,
+    pub watched: Watch,
     pub held: usize,
     pub good: bool,
     pub amiss: bool,
+    pub reason: Reason,
 }
 
-pub fn fresh(fd: i32, watched: bool) -> Text
+pub fn fresh(out: Stdout, watched: Watch) -> Text
     ensures { result.held ≤ 0 }
 {
     Text {
-        fd,
+        out,
         watched,
         held: 0,
         good: true,
         amiss: false,
+        reason: reason::none(),
     }
 }
 
@@ -52,11 +59,12 @@ fn lost(text: Text) -> Text
     ensures { (result.held ≡ text.held) × (result.good ≡ true → ⊥) }
 {
     Text {
-        fd: text.fd,
+        out: text.out,
         watched: text.watched,
         held: text.held,
         good: false,
         amiss: text.amiss,
+        reason: text.reason,
     }
 }
 
@@ -90,11 +98,12 @@ fn ended(text: Text, room: &mut [u8], n: usize, complaint: bool) -> Text
     let end = held + n;
     room[end] = b'\n';
     Text {
-        fd: text.fd,
+        out: text.out,
         watched: text.watched,
         held: end + 1,
         good: text.good,
         amiss: either(text.amiss, complaint),
+        reason: text.reason,
     }
 }
 
@@ -124,13 +133,14 @@ pub fn drain(text: Text, room: &[u8]) -> Text
     ensures { (result.held ≤ 0) × (result.amiss ≡ text.amiss) × (result.good ≡ true → text.good ≡ true) }
 {
     let held = text.held;
-    let done = told::drain(text.fd, &room[..held], text.watched);
+    let done = told::drain(text.out, &room[..held], text.watched);
     Text {
-        fd: text.fd,
+        out: text.out,
         watched: text.watched,
         held: 0,
-        good: both(text.good, done),
+        good: both(text.good, done.is_ok()),
         amiss: text.amiss,
+        reason: reason::behind(text.reason, done),
     }
 }
 

@@ -1,97 +1,109 @@
 // Where two logs part: `parts_main LOG LOG` tells it on standard output. `./parts` is its front.
-use libc::STDOUT_FILENO;
+#![tactic(auto)]
+
 use parts_host::Outcome;
 use parts_walks::inputs::Source;
-use pipes::{named, told};
+use pipes::reason::Reason;
+use pipes::{named, rooms, told};
+use std::fs::File;
+use std::io::Stderr;
+use std::process::ExitCode;
 
 // A reader that has gone away has had what it wanted; what it would have read decides the status no more.
-fn unwritten() -> u64 {
-    if told::unread() {
+fn unwritten(err: Stderr, why: Reason) -> u64 {
+    if told::unread(why) {
         return 0;
     }
-    named::fail(b"parts", b"standard output");
+    named::fail(err, b"parts", b"standard output", why);
     1
 }
 
-fn name_unread(log: u8, first: &[u8], second: &[u8]) {
+fn name_unread(err: Stderr, log: u8, why: Reason, first: &[u8], second: &[u8]) {
     match log {
-        1 => named::fail(b"parts", first),
-        _ => named::fail(b"parts", second),
+        1 => named::fail(err, b"parts", first, why),
+        _ => named::fail(err, b"parts", second, why),
     }
 }
 
 // What the program ends with: 0 for logs that are the same, 3 for logs that part, 8 for a line that is none of a log, 1 where a file could not be read or the text not written.
-fn status_of(outcome: Outcome, first: &[u8], second: &[u8]) -> u64 {
+fn status_of(err: Stderr, outcome: Outcome, first: &[u8], second: &[u8]) -> u64 {
     match outcome {
         Outcome::Same => 0,
         Outcome::Parted => 3,
         Outcome::Strange => 8,
-        Outcome::Unread(log) => {
-            name_unread(log, first, second);
+        Outcome::Unread(log, why) => {
+            name_unread(err, log, why, first, second);
             1
         }
-        Outcome::Unwritten => unwritten(),
+        Outcome::Unwritten(why) => unwritten(err, why),
         Outcome::Changed => {
-            named::say(b"parts", b"a log changed while it was read");
+            named::say(err, b"parts", b"a log changed while it was read");
             1
         }
     }
 }
 
-fn source(fd: i32) -> Source {
+fn source(file: &File) -> Source<'_> {
     Source {
-        fd,
+        file,
         start: 0,
         most: u64::MAX,
     }
 }
 
 // A log is read more than once, which a pipe cannot be.
-fn opened(name: &[u8]) -> i32 {
-    let fd = named::open(b"parts", name);
-    if fd < 0 {
-        return -1;
+fn opened(rt: HostRuntime, name: &[u8]) -> Option<File> {
+    let file = named::open(rt, b"parts", name)?;
+    match named::seekable(&file) {
+        Ok(()) => Some(file),
+        Err(why) => {
+            named::fail(rt.stderr(), b"parts", name, why);
+            named::say(
+                rt.stderr(),
+                b"parts",
+                b"a log is read more than once, so it must be a file and no pipe",
+            );
+            None
+        }
     }
-    if named::seekable(fd) {
-        return fd;
-    }
-    named::fail(b"parts", name);
-    named::say(
-        b"parts",
-        b"a log is read more than once, so it must be a file and no pipe",
-    );
-    -1
 }
 
-fn parted(first: &[u8], second: &[u8]) -> u64 {
-    let f = opened(first);
-    if f < 0 {
-        return 1;
-    }
-    let s = opened(second);
-    if s < 0 {
-        return 1;
-    }
-    let outcome = parts_host::run(source(f), first, source(s), second, STDOUT_FILENO);
-    status_of(outcome, first, second)
+fn both_opened(rt: HostRuntime, first: &[u8], second: &[u8]) -> Option<(File, File)> {
+    let f = opened(rt, first)?;
+    let s = opened(rt, second)?;
+    Some((f, s))
 }
 
-fn named_files() -> u64 {
-    let mut first = io::buffer();
-    let mut second = io::buffer();
-    let f = named::argument(b"parts", 1, &mut first);
-    let s = named::argument(b"parts", 2, &mut second);
-    parted(&first[..f], &second[..s])
+fn parted(rt: HostRuntime, first: &[u8], second: &[u8]) -> u64 {
+    match both_opened(rt, first, second) {
+        Some((f, s)) => {
+            let outcome = parts_host::run(source(&f), first, source(&s), second, rt.stdout());
+            status_of(rt.stderr(), outcome, first, second)
+        }
+        None => 1,
+    }
 }
 
-fn main() {
-    if os::arg_count() != 3 {
-        named::say(b"parts", b"two logs are held against each other: LOG LOG");
-        told::status(2);
-        return;
+fn named_files(rt: HostRuntime) -> u64 {
+    let mut first = rooms::name();
+    let mut second = rooms::name();
+    let f = named::argument(rt, b"parts", 1, &mut first);
+    let s = named::argument(rt, b"parts", 2, &mut second);
+    parted(rt, &first[..f], &second[..s])
+}
+
+fn run(rt: HostRuntime) -> u64 {
+    if named::words(&rt) != 3 {
+        named::say(
+            rt.stderr(),
+            b"parts",
+            b"two logs are held against each other: LOG LOG",
+        );
+        return 2;
     }
-    let status = named_files();
-    if status != 0 {
-        told::status(status);
-    }
+    named_files(rt)
+}
+
+fn main(rt: HostRuntime) -> ExitCode {
+    told::status(run(rt))
 }

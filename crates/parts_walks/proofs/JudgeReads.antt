@@ -1,16 +1,15 @@
 -- What the judge's loop comes to is what a host comes to that holds the bytes which the windows brought.
 use Prim.Native.Nat.{ℕ}
 use mathlib.Core.Path.{◌≡◌, refl, sym, ap, subst, ◌∙◌}
-use mathlib.Core.Bool.{Bool, true}
-use mathlib.Core.List.{List, [], ◌∷◌, ◌++◌, append_assoc}
-use lib.ListN.{take, drop}
+use mathlib.Core.Bool.{true}
+use mathlib.Core.List.{List, [], ◌++◌, append_assoc}
+use lib.ListN.{take}
 use Rattle.pipes.specs.Window.{at_hand, Moved}
 use Rattle.pipes.specs.declared.window.Window.{Window}
 use Rattle.log_parts.proofs.Merges.{clash}
 use Rattle.log_parts.specs.declared.Judged.{Judged}
 use Rattle.log_parts.specs.declared.Judged.TheVariants as judged
 use Rattle.log_parts.specs.Judged.{judged_text}
-use Rattle.log_text.proofs.Text.{append_nothing}
 use Rattle.log_passes.specs.Judging.{judged_as, judged_in}
 use Rattle.log_passes.specs.Hosts.{Holds, Heard, Fine, Stops, Judges, goes, over, strange}
 use Rattle.log_passes.specs.declared.taking.Taken.{Taken}

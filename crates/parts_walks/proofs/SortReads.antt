@@ -13,7 +13,7 @@ use Rattle.log_parts.specs.declared.Turn.{Turn}
 use Rattle.log_parts.specs.declared.Turn.TheVariants as turn
 use Rattle.log_passes.specs.Taking.{taken_in}
 use Rattle.log_passes.specs.Passing.{sought_in, turn_at, step_of, pass_of, first_sought, second_sought, turned_by, stepped_by, stepped}
-use Rattle.log_passes.specs.Hosts.{Holds, Passes, goes, over}
+use Rattle.log_passes.specs.Hosts.{Passes, goes, over}
 use Rattle.log_passes.specs.declared.passing.Held.{Held}
 use Rattle.log_passes.specs.declared.passing.Held.TheVariants.{Sought, Has}
 use Rattle.log_passes.specs.declared.passing.Pass.{Pass}

@@ -3,37 +3,43 @@ ghost use Rattle.std.specs.Prelude.{◌≡◌, length};
 ghost use Rattle.pipes.specs.Window.{Within};
 ghost use Rattle.parts_walks.specs.Inputs.{BothWithin, BothMoved, Passed, FirstRead, SecondRead};
 
+use pipes::reason::Reason;
 use pipes::window::Window;
-use pipes::{named, window};
+use pipes::{named, reason, window};
+use std::fs::File;
 
 // A log is so many bytes of an open file at most, from that place on.
-#[derive(Drop)]
-pub struct Source {
-    pub fd: i32,
+#[derive(Clone, Copy)]
+pub struct Source<'a> {
+    pub file: &'a File,
     pub start: u64,
     pub most: u64,
 }
 
-#[derive(Drop)]
+// The open files that the two are read from.
+#[derive(Clone, Copy)]
+pub struct Logs<'a> {
+    pub first: &'a File,
+    pub second: &'a File,
+}
+
+#[derive(Clone, Copy)]
 pub struct Inputs {
     pub first: Window,
     pub second: Window,
 }
 
-// No file is open under this number, so that a read from it fails.
-const NO_FILE: i32 = -1;
-
 // Every pass reads a log from its beginning; one that cannot be read there is not read at all.
-pub fn begin(source: Source) -> Window
+pub fn begin(source: Source<'_>) -> Window
     ensures { Within result }
 {
-    if named::go_to(source.fd, source.start) {
-        return window::fresh(source.fd, source.most);
+    match named::go_to(source.file, source.start) {
+        Ok(()) => window::fresh(source.most),
+        Err(why) => window::unreadable(why),
     }
-    window::fresh(NO_FILE, source.most)
 }
 
-pub fn begin_both(first: Source, second: Source) -> Inputs
+pub fn begin_both(first: Source<'_>, second: Source<'_>) -> Inputs
     ensures { BothWithin result }
 {
     Inputs {
@@ -43,7 +49,7 @@ pub fn begin_both(first: Source, second: Source) -> Inputs
 }
 
 // Which log is to be read on.
-#[derive(Drop)]
+#[derive(Clone, Copy)]
 pub enum Wanted {
     Neither,
     First,
@@ -60,25 +66,25 @@ fn past(inputs: Inputs, u: usize, v: usize) -> Inputs
     }
 }
 
-fn refill_first(inputs: Inputs, room: &mut [u8]) -> Inputs
+fn refill_first(inputs: Inputs, from: &File, room: &mut [u8]) -> Inputs
     requires { (BothWithin inputs) × (length room.old ≡ 65536) }
     ensures { FirstRead inputs room.old result room.new }
 {
     let second = inputs.second;
     Inputs {
-        first: window::refill(inputs.first, room),
+        first: window::refill(inputs.first, Some(from), room),
         second,
     }
 }
 
-fn refill_second(inputs: Inputs, room: &mut [u8]) -> Inputs
+fn refill_second(inputs: Inputs, from: &File, room: &mut [u8]) -> Inputs
     requires { (BothWithin inputs) × (length room.old ≡ 65536) }
     ensures { SecondRead inputs room.old result room.new }
 {
     let first = inputs.first;
     Inputs {
         first,
-        second: window::refill(inputs.second, room),
+        second: window::refill(inputs.second, Some(from), room),
     }
 }
 
@@ -88,6 +94,7 @@ pub fn go_on(
     u: usize,
     v: usize,
     wanted: Wanted,
+    logs: &Logs<'_>,
     first: &mut [u8],
     second: &mut [u8],
 ) -> Inputs
@@ -97,8 +104,8 @@ pub fn go_on(
     let rest = past(inputs, u, v);
     match wanted {
         Wanted::Neither => rest,
-        Wanted::First => refill_first(rest, first),
-        Wanted::Second => refill_second(rest, second),
+        Wanted::First => refill_first(rest, logs.first, first),
+        Wanted::Second => refill_second(rest, logs.second, second),
     }
 }
 
@@ -111,4 +118,15 @@ pub fn failed(inputs: Inputs) -> u8 {
         return 2;
     }
     0
+}
+
+// Why that one has.
+pub fn reason_of(inputs: Inputs) -> Reason {
+    if inputs.first.failed {
+        return inputs.first.reason;
+    }
+    if inputs.second.failed {
+        return inputs.second.reason;
+    }
+    reason::none()
 }

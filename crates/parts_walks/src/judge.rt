@@ -8,9 +8,10 @@ use log_passes::judging;
 use log_passes::judging::{Judgement, Judging, Look};
 use pipes::window;
 use pipes::window::Window;
+use std::fs::File;
 
 // Where the judge stands, and what was said last.
-#[derive(Drop)]
+#[derive(Clone, Copy)]
 pub struct Stand {
     pub judging: Judging,
     pub window: Window,
@@ -43,19 +44,19 @@ fn ask(judging: Judging, window: Window, room: &[u8]) -> Judgement
 }
 
 // What was answered is done: bytes are used, or more of them read.
-fn heed(look: Look, window: Window, room: &mut [u8]) -> Window
+fn heed(look: Look, window: Window, from: &File, room: &mut [u8]) -> Window
     requires { (Within window) × (length room.old ≡ 65536) }
     ensures { Heeded look window room.old result room.new }
 {
     match look {
         Look::Goes(used) => window::past(window, used),
-        Look::Wants => window::refill(window, room),
+        Look::Wants => window::refill(window, Some(from), room),
         Look::Over => window,
         Look::Strange(_n) => window,
     }
 }
 
-fn turn(stand: Stand, room: &mut [u8]) -> Stand
+fn turn(stand: Stand, from: &File, room: &mut [u8]) -> Stand
     requires { (Within stand.window) × (length room.old ≡ 65536) }
     ensures { (Within result.window) × (JudgeTurned stand room.old result room.new) }
 {
@@ -64,7 +65,7 @@ fn turn(stand: Stand, room: &mut [u8]) -> Stand
     let judgement = ask(before, window, room);
     let judging = judgement.judging;
     let look = judgement.look;
-    let next = heed(look, window, room);
+    let next = heed(look, window, from, room);
     Stand {
         judging,
         window: next,
@@ -92,7 +93,7 @@ fn goes_on(stand: Stand) -> bool {
 }
 
 // The turns are counted so that the loop ends for certain: 2^64 of them take centuries.
-pub fn all(first: Stand, room: &mut [u8]) -> Stand
+pub fn all(first: Stand, from: &File, room: &mut [u8]) -> Stand
     requires { (Within first.window) × (length room.old ≡ 65536) }
     ensures { (Within result.window) × (JudgeWalked first room.old result room.new) }
 {
@@ -102,7 +103,7 @@ pub fn all(first: Stand, room: &mut [u8]) -> Stand
         if !goes_on(stand) {
             return stand;
         }
-        stand = turn(stand, room);
+        stand = turn(stand, from, room);
         turns = turns + 1;
     }
     stand

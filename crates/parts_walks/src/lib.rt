@@ -1,5 +1,7 @@
 // Two logs in open files, walked to their ends. Proved: each call of `log_passes` is handed the bytes at hand and nothing else, what it used is passed, and what a loop comes to
 // is what a host comes to that holds the bytes which the reads brought, in their order.
+#![tactic(auto)]
+
 pub mod inputs; // the two logs
 pub mod judge; // is each a log
 pub mod order; // are they the same

@@ -4,12 +4,12 @@ ghost use Rattle.parts_walks.specs.Inputs.{BothWithin};
 ghost use Rattle.parts_walks.specs.Ordered.{order_opened, order_answered, first_used, second_used, OrderTurned, OrderWalked};
 
 use crate::inputs;
-use crate::inputs::{Inputs, Wanted};
+use crate::inputs::{Inputs, Logs, Wanted};
 use log_passes::beside;
 use log_passes::beside::{Ask, Beside};
 
 // Where the two stand, and what was asked last.
-#[derive(Drop)]
+#[derive(Clone, Copy)]
 pub struct Walk {
     pub place: u64,
     pub inputs: Inputs,
@@ -84,7 +84,7 @@ fn read_on(ask: Ask) -> Wanted {
 }
 
 // What is answered is done: bytes are used, or more of one log read.
-fn turn(walk: Walk, first: &mut [u8], second: &mut [u8]) -> Walk
+fn turn(walk: Walk, logs: &Logs<'_>, first: &mut [u8], second: &mut [u8]) -> Walk
     requires { (BothWithin walk.inputs) × (length first.old ≡ 65536) × (length second.old ≡ 65536) }
     ensures { OrderTurned walk first.old second.old result first.new second.new }
 {
@@ -94,7 +94,7 @@ fn turn(walk: Walk, first: &mut [u8], second: &mut [u8]) -> Walk
     let u = first_used(asked);
     let v = second_used(asked);
     let wanted = read_on(asked);
-    let inputs = inputs::go_on(before, u, v, wanted, first, second);
+    let inputs = inputs::go_on(before, u, v, wanted, logs, first, second);
     Walk {
         place: next.place,
         inputs,
@@ -124,7 +124,7 @@ fn goes_on(walk: Walk) -> bool {
 }
 
 // The turns are counted so that the loop ends for certain: 2^64 of them take centuries.
-pub fn all(begun: Walk, first: &mut [u8], second: &mut [u8]) -> Walk
+pub fn all(begun: Walk, logs: &Logs<'_>, first: &mut [u8], second: &mut [u8]) -> Walk
     requires { (BothWithin begun.inputs) × (length first.old ≡ 65536) × (length second.old ≡ 65536) }
     ensures { OrderWalked begun first.old second.old result first.new second.new }
 {
@@ -134,7 +134,7 @@ pub fn all(begun: Walk, first: &mut [u8], second: &mut [u8]) -> Walk
         if !goes_on(walk) {
             return walk;
         }
-        walk = turn(walk, first, second);
+        walk = turn(walk, logs, first, second);
         turns = turns + 1;
     }
     walk

@@ -4,13 +4,13 @@ ghost use Rattle.parts_walks.specs.Inputs.{BothWithin};
 ghost use Rattle.parts_walks.specs.Counted.{count_opened, count_answered, CountTurned, CountWalked};
 
 use crate::inputs;
-use crate::inputs::{Inputs, Wanted};
+use crate::inputs::{Inputs, Logs, Wanted};
 use log_parts::Sort;
 use log_passes::passing;
 use log_passes::passing::{Need, Pass, Step};
 
 // Where the two stand, and what was needed last.
-#[derive(Drop)]
+#[derive(Clone, Copy)]
 pub struct Walk {
     pub pass: Pass,
     pub inputs: Inputs,
@@ -59,7 +59,7 @@ fn read_on(need: Need) -> Wanted {
 }
 
 // What is answered is done: bytes are used, or more of one log read.
-fn turn(sort: Sort, walk: Walk, first: &mut [u8], second: &mut [u8]) -> Walk
+fn turn(sort: Sort, walk: Walk, logs: &Logs<'_>, first: &mut [u8], second: &mut [u8]) -> Walk
     requires { (BothWithin walk.inputs) × (length first.old ≡ 65536) × (length second.old ≡ 65536) }
     ensures { CountTurned sort walk first.old second.old result first.new second.new }
 {
@@ -74,6 +74,7 @@ fn turn(sort: Sort, walk: Walk, first: &mut [u8], second: &mut [u8]) -> Walk
         step.first_used,
         step.second_used,
         wanted,
+        logs,
         first,
         second,
     );
@@ -101,7 +102,7 @@ fn goes_on(walk: Walk) -> bool {
 }
 
 // The turns are counted so that the loop ends for certain: 2^64 of them take centuries.
-pub fn all(sort: Sort, begun: Walk, first: &mut [u8], second: &mut [u8]) -> Walk
+pub fn all(sort: Sort, begun: Walk, logs: &Logs<'_>, first: &mut [u8], second: &mut [u8]) -> Walk
     requires { (BothWithin begun.inputs) × (length first.old ≡ 65536) × (length second.old ≡ 65536) }
     ensures { CountWalked sort begun first.old second.old result first.new second.new }
 {
@@ -111,7 +112,7 @@ pub fn all(sort: Sort, begun: Walk, first: &mut [u8], second: &mut [u8]) -> Walk
         if !goes_on(walk) {
             return walk;
         }
-        walk = turn(sort, walk, first, second);
+        walk = turn(sort, walk, logs, first, second);
         turns = turns + 1;
     }
     walk

@@ -6,7 +6,7 @@ use mathlib.Core.List.{List, ◌++◌}
 use lib.ListN.{length, take, drop, length-drop}
 use lib.Seq.{take-add, length-take-le}
 use Rattle.pipes.specs.declared.window.Window.{Window}
-use Rattle.pipes.specs.Window.{Within, at_hand, Grown}
+use Rattle.pipes.specs.Window.{at_hand, Grown}
 
 -- the bytes at hand of a window at the front
 pub front_hand : (w : Window) (room : List ℕ) → w.at ≡ 0 → at_hand w room ≡ take w.end room

@@ -2,26 +2,44 @@
 ghost use Rattle.std.specs.Prelude.{◌≡◌, ◌+◌, ◌-◌, ◌^◌, ◌≤◌, ◌<◌, min, length, take, drop};
 ghost use Rattle.pipes.specs.Window.{Within, at_hand, over, Grown};
 
-// Those from `at` to `end` of a room of 65,536 bytes that the caller lends. At most `left` more may be read: 0 once the input has ended. After a failed call nothing more may be asked.
-#[derive(Drop)]
+use crate::reason;
+use crate::reason::Reason;
+use std::fs::File;
+use std::io::Read;
+
+// Those from `at` to `end` of a room of 65,536 bytes that the caller lends. At most `left` more may be read: 0 once the input has ended. After a failed call nothing more may be asked; `reason` is then why the read failed.
+#[derive(Clone, Copy)]
 pub struct Window {
-    pub fd: i32,
     pub at: usize,
     pub end: usize,
     pub left: u64,
     pub failed: bool,
+    pub reason: Reason,
 }
 
 // Nothing is at hand, and at most so many bytes may be read.
-pub fn fresh(fd: i32, most: u64) -> Window
+pub fn fresh(most: u64) -> Window
     ensures { (Within result) × (result.left ≡ most) }
 {
     Window {
-        fd,
         at: 0,
         end: 0,
         left: most,
         failed: false,
+        reason: reason::none(),
+    }
+}
+
+// A window that has failed before any read, and why.
+pub fn unreadable(why: Reason) -> Window
+    ensures { (Within result) × (result.left ≡ 0) }
+{
+    Window {
+        at: 0,
+        end: 0,
+        left: 0,
+        failed: true,
+        reason: why,
     }
 }
 
@@ -31,11 +49,11 @@ pub fn allow(w: Window, most: u64) -> Window
     ensures { (Within result) × (result.left ≡ most) }
 {
     Window {
-        fd: w.fd,
         at: w.at,
         end: w.end,
         left: most,
         failed: w.failed,
+        reason: w.reason,
     }
 }
 
@@ -51,11 +69,11 @@ fn overrun(w: Window) -> Window
     ensures { (result.at ≡ w.end) × (result.end ≡ w.end) × (result.left ≡ 0) }
 {
     Window {
-        fd: w.fd,
         at: w.end,
         end: w.end,
         left: 0,
         failed: true,
+        reason: w.reason,
     }
 }
 
@@ -68,33 +86,33 @@ pub fn past(w: Window, n: usize) -> Window
         return overrun(w);
     }
     Window {
-        fd: w.fd,
         at: w.at + n,
         end: w.end,
         left: w.left,
         failed: w.failed,
+        reason: w.reason,
     }
 }
 
-// One read, behind the bytes at hand, which move to the front of the room first. It reads no more than is left, and leaves nothing where the input has ended. The window
+// One read of the file, behind the bytes at hand, which move to the front of the room first. It reads no more than is left, and leaves nothing where the input has ended. The window
 // fails where the read does, where nothing is left, and where the room is full.
-pub fn refill(w: Window, room: &mut [u8]) -> Window
+pub fn refill(w: Window, from: Option<&File>, room: &mut [u8]) -> Window
     requires { (Within w) × (length room.old ≡ 65536) }
     ensures { Grown w room.old result room.new }
 {
     let front = to_front(w, room);
     let to = front.end + least(room.len() - front.end, front.left);
-    read_to(front, room, to)
+    read_to(front, from, room, to)
 }
 
 // Reads until nothing is left: all that is allowed has come, the input has ended, or a read has failed.
-pub fn read_all(w: Window, room: &mut [u8]) -> Window
+pub fn read_all(w: Window, from: Option<&File>, room: &mut [u8]) -> Window
     requires { (Within w) × (length room.old ≡ 65536) }
     ensures { Within result }
 {
     let mut next = w;
     while 0 < next.left {
-        next = refill(next, room);
+        next = refill(next, from, room);
     }
     next
 }
@@ -120,11 +138,11 @@ fn to_front(w: Window, room: &mut [u8]) -> Window
     let end = w.end;
     shift(room, at, end);
     Window {
-        fd: w.fd,
         at: 0,
         end: end - at,
         left: w.left,
         failed: w.failed,
+        reason: w.reason,
     }
 }
 
@@ -135,22 +153,23 @@ fn least(a: usize, b: u64) -> usize
 }
 
 // Nothing more is to be read.
-fn stopped(w: Window, failed: bool) -> Window
+fn stopped(w: Window, failed: bool, reason: Reason) -> Window
     ensures { (result.at ≡ w.at) × (result.end ≡ w.end) × (result.left ≡ 0) }
 {
     Window {
-        fd: w.fd,
         at: w.at,
         end: w.end,
         left: 0,
         failed,
+        reason,
     }
 }
 
 // What one read came to: no bytes where it failed, and none where the input has ended.
-#[derive(Drop)]
+#[derive(Clone, Copy)]
 struct Got {
     failed: bool,
+    reason: Reason,
     count: usize,
 }
 
@@ -160,42 +179,58 @@ fn came(w: Window, got: Got) -> Window
     ensures { (result.at ≡ w.at) × (w.end ≤ result.end) × (result.end ≤ w.end + got.count) × (result.end - w.end + result.left ≤ w.left) × (result.left ≤ w.left - 1) }
 {
     if got.failed {
-        return stopped(w, true);
+        return stopped(w, true, got.reason);
     }
     if got.count == 0 {
-        return stopped(w, false);
+        return stopped(w, false, w.reason);
     }
     Window {
-        fd: w.fd,
         at: w.at,
         end: w.end + got.count,
         left: w.left - got.count as u64,
         failed: w.failed,
+        reason: w.reason,
     }
 }
 
-// One read into the room between `from` and `to`.
-fn read_between(fd: i32, room: &mut [u8], from: usize, to: usize) -> Got
+// No bytes, and why.
+fn none_got(why: Reason) -> Got
+    ensures { result.count ≡ 0 }
+{
+    Got {
+        failed: true,
+        reason: why,
+        count: 0,
+    }
+}
+
+// One read into the room between `from` and `to`. Of no file it fails.
+fn read_between(input: Option<&File>, room: &mut [u8], from: usize, to: usize) -> Got
     requires { (from ≤ to) × (to ≤ length room.old) }
     ensures { (result.count ≤ to - from) × (take from room.new ≡ take from room.old) }
 {
-    let got = libc::read(fd, &mut room[from..to]);
-    let count = io::count(got, &room[from..to]);
-    Got {
-        failed: got < 0,
-        count,
+    let Some(mut file) = input else {
+        return none_got(reason::no_file());
+    };
+    match file.read(&mut room[from..to]) {
+        Ok(count) => Got {
+            failed: false,
+            reason: reason::none(),
+            count,
+        },
+        Err(e) => none_got(reason::of(&e)),
     }
 }
 
 // The same behind the bytes at hand of a window that stands at the front.
-fn read_to(w: Window, room: &mut [u8], to: usize) -> Window
+fn read_to(w: Window, input: Option<&File>, room: &mut [u8], to: usize) -> Window
     requires { (Within w) × (length room.old ≡ 65536) × (w.at ≡ 0) × (w.end ≤ to) × (to ≤ length room.old) × (to ≤ w.end + w.left) }
     ensures { Grown w room.old result room.new }
 {
     let from = w.end;
     if from == to {
-        return stopped(w, true);
+        return stopped(w, true, w.reason);
     }
-    let got = read_between(w.fd, room, from, to);
+    let got = read_between(input, room, from, to);
     came(w, got)
 }

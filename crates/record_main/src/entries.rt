@@ -1,8 +1,11 @@
 // The file of the events: the header, and then one event behind the other.
 ghost use Rattle.std.specs.Prelude.{◌≡◌, ◌≤◌, ◌<◌, min, length};
 
+use pipes::reason::Reason;
+use pipes::{rooms, told};
 use recording::{Form, Header, Used};
 use recording_make::Plan;
+use std::fs::File;
 
 // So many are written at once.
 const MANY: u32 = 4096;
@@ -13,13 +16,13 @@ fn least(a: u32, b: u32) -> u32
     if a <= b { a } else { b }
 }
 
-fn write_header(h: Header, to: i32) -> bool {
+fn write_header(h: Header, to: &File) -> Result<(), Reason> {
     let bytes = recording_make::header_bytes(h);
     let form = h.form;
     match form {
-        Form::Plain => io::write_all(to, &bytes[..24]),
-        Form::Floats => io::write_all(to, &bytes[..28]),
-        Form::Shorts => io::write_all(to, &bytes[..28]),
+        Form::Plain => told::write(to, &bytes[..24]),
+        Form::Floats => told::write(to, &bytes[..28]),
+        Form::Shorts => told::write(to, &bytes[..28]),
     }
 }
 
@@ -30,7 +33,7 @@ fn put(entry: &[u8; 16], i: usize, room: &mut [u8])
 {
     let at = 16 * i;
     let end = at + 16;
-    bytes::copy(entry, &mut room[at..end]);
+    room[at..end].copy_from_slice(entry);
 }
 
 // Puts the next n events to the start of the room, and gives what is used behind them.
@@ -51,7 +54,7 @@ fn fill(p: Plan, used: Used, n: u32, room: &mut [u8]) -> Used
 }
 
 // Writes all events.
-fn write_all(p: Plan, to: i32, room: &mut [u8]) -> bool
+fn write_all(p: Plan, to: &File, room: &mut [u8]) -> Result<(), Reason>
     requires { length room.old ≡ 65536 }
 {
     let h = p.header;
@@ -61,20 +64,16 @@ fn write_all(p: Plan, to: i32, room: &mut [u8]) -> bool
         let n = least(left, MANY);
         used = fill(p, used, n, room);
         let end = 16 * n as usize;
-        if !io::write_all(to, &room[..end]) {
-            return false;
-        }
+        told::write(to, &room[..end])?;
         left -= n;
     }
-    true
+    Ok(())
 }
 
-// Writes header and events, and tells whether that was done.
-pub fn write(p: Plan, to: i32) -> bool {
+// Writes header and events, or tells why that was not done.
+pub fn write(p: Plan, to: &File) -> Result<(), Reason> {
     let h = p.header;
-    if !write_header(h, to) {
-        return false;
-    }
-    let mut room = io::large_buffer();
+    write_header(h, to)?;
+    let mut room = rooms::large();
     write_all(p, to, &mut room)
 }

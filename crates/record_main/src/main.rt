@@ -4,80 +4,79 @@
 //
 // The first channel is 1, and 0 stands for the only one. Both sounds are judged before anything is made. The events are written last, so that a folder that was left
 // half-made is no recording.
+#![tactic(auto)]
+
 mod entries;
 mod numbers;
 mod sides;
 mod sounds;
 mod words;
 
-use pipes::{named, told};
+use pipes::{named, rooms, told};
 use recording_make::{Plan, Planned};
 use sounds::{Found, Source};
+use std::io::Stderr;
+use std::process::ExitCode;
 
-// A new file, or -1, and why is said.
-fn made(name: &[u8]) -> i32 {
-    let fd = os::create(name);
-    if fd < 0 {
-        named::fail(b"record", name);
+fn make_side(rt: HostRuntime, from: &Source, name: &[u8], argument: usize) -> bool {
+    let mut room = rooms::name();
+    let n = named::argument(rt, b"record", argument, &mut room);
+    match named::create(rt, b"record", &room[..n]) {
+        Some(to) => sides::copy(rt.stderr(), from, name, &to, &room[..n]),
+        None => false,
     }
-    fd
 }
 
-fn make_side(from: Source, name: &[u8], argument: usize) -> bool {
-    let mut room = io::buffer();
-    let n = named::argument(b"record", argument, &mut room);
-    let to = made(&room[..n]);
-    if to < 0 {
+fn make_events(rt: HostRuntime, p: Plan) -> bool {
+    let mut room = rooms::name();
+    let n = named::argument(rt, b"record", 10, &mut room);
+    let Some(to) = named::create(rt, b"record", &room[..n]) else {
         return false;
+    };
+    match entries::write(p, &to) {
+        Ok(()) => true,
+        Err(why) => {
+            named::fail(rt.stderr(), b"record", &room[..n], why);
+            false
+        }
     }
-    sides::copy(from, name, to, &room[..n])
 }
 
-fn make_events(p: Plan) -> bool {
-    let mut room = io::buffer();
-    let n = named::argument(b"record", 10, &mut room);
-    let to = made(&room[..n]);
-    if to < 0 {
-        return false;
-    }
-    if entries::write(p, to) {
-        return true;
-    }
-    named::fail(b"record", &room[..n]);
-    false
+fn make_folder(rt: HostRuntime) -> bool {
+    let mut room = rooms::name();
+    let n = named::argument(rt, b"record", 7, &mut room);
+    named::make_folder(rt, b"record", &room[..n])
 }
 
-fn make_folder() -> bool {
-    let mut room = io::buffer();
-    let n = named::argument(b"record", 7, &mut room);
-    if os::mkdir(&room[..n]) == 0 {
-        return true;
-    }
-    named::fail(b"record", &room[..n]);
-    false
-}
-
-fn make(p: Plan, far: Source, far_name: &[u8], near: Source, near_name: &[u8]) -> u64 {
-    if !make_folder() {
+fn make(
+    rt: HostRuntime,
+    p: Plan,
+    far: &Source,
+    far_name: &[u8],
+    near: &Source,
+    near_name: &[u8],
+) -> u64 {
+    if !make_folder(rt) {
         return 1;
     }
-    if !make_side(far, far_name, 8) {
+    if !make_side(rt, far, far_name, 8) {
         return 1;
     }
-    if !make_side(near, near_name, 9) {
+    if !make_side(rt, near, near_name, 9) {
         return 1;
     }
-    if make_events(p) {
+    if make_events(rt, p) {
         return 0;
     }
     1
 }
 
 // Kinds and rates are named with the near file; what was asked for is a matter of how the command was called.
-fn unlike(planned: Planned, far_name: &[u8], near_name: &[u8]) -> u64 {
+fn unlike(err: Stderr, planned: Planned, far_name: &[u8], near_name: &[u8]) -> u64 {
     match planned {
         Planned::OtherKinds => {
             words::beside(
+                err,
                 near_name,
                 far_name,
                 b"one has 16-bit samples and the other floats: ",
@@ -85,62 +84,70 @@ fn unlike(planned: Planned, far_name: &[u8], near_name: &[u8]) -> u64 {
             1
         }
         Planned::OtherRates => {
-            words::beside(near_name, far_name, b"their rates differ: ");
+            words::beside(err, near_name, far_name, b"their rates differ: ");
             1
         }
         Planned::OtherCeiling => {
-            named::say(b"record", b"--ceiling is 1 to 4000, in ms");
+            named::say(err, b"record", b"--ceiling is 1 to 4000, in ms");
             2
         }
         Planned::OtherStart => {
-            named::say(b"record", b"--start is too large: an index would pass 2^62");
+            named::say(
+                err,
+                b"record",
+                b"--start is too large: an index would pass 2^62",
+            );
             2
         }
         Planned::Fits(_) => 0,
     }
 }
 
-fn planned(far: Source, far_name: &[u8], near: Source, near_name: &[u8]) -> u64 {
-    let ceiling = numbers::argument32(5);
-    let start = numbers::argument(6);
+fn planned(rt: HostRuntime, far: &Source, far_name: &[u8], near: &Source, near_name: &[u8]) -> u64 {
+    let ceiling = numbers::argument32(&rt, 5);
+    let start = numbers::argument(&rt, 6);
     let played = far.sound;
     let heard = near.sound;
     let planned = recording_make::plan_from(played, heard, ceiling, start);
     match planned {
-        Planned::Fits(p) => make(p, far, far_name, near, near_name),
-        Planned::OtherKinds => unlike(planned, far_name, near_name),
-        Planned::OtherRates => unlike(planned, far_name, near_name),
-        Planned::OtherCeiling => unlike(planned, far_name, near_name),
-        Planned::OtherStart => unlike(planned, far_name, near_name),
+        Planned::Fits(p) => make(rt, p, far, far_name, near, near_name),
+        Planned::OtherKinds => unlike(rt.stderr(), planned, far_name, near_name),
+        Planned::OtherRates => unlike(rt.stderr(), planned, far_name, near_name),
+        Planned::OtherCeiling => unlike(rt.stderr(), planned, far_name, near_name),
+        Planned::OtherStart => unlike(rt.stderr(), planned, far_name, near_name),
     }
 }
 
-fn recorded(far_name: &[u8], near_name: &[u8]) -> u64 {
-    let Found::Sound(far) = sounds::open(far_name, numbers::argument(3)) else {
+fn recorded(rt: HostRuntime, far_name: &[u8], near_name: &[u8]) -> u64 {
+    let Found::Sound(far) = sounds::open(rt, far_name, numbers::argument(&rt, 3)) else {
         return 1;
     };
-    let Found::Sound(near) = sounds::open(near_name, numbers::argument(4)) else {
+    let Found::Sound(near) = sounds::open(rt, near_name, numbers::argument(&rt, 4)) else {
         return 1;
     };
-    planned(far, far_name, near, near_name)
+    planned(rt, &far, far_name, &near, near_name)
 }
 
-fn named_files() -> u64 {
-    let mut far = io::buffer();
-    let mut near = io::buffer();
-    let f = named::argument(b"record", 1, &mut far);
-    let n = named::argument(b"record", 2, &mut near);
-    recorded(&far[..f], &near[..n])
+fn named_files(rt: HostRuntime) -> u64 {
+    let mut far = rooms::name();
+    let mut near = rooms::name();
+    let f = named::argument(rt, b"record", 1, &mut far);
+    let n = named::argument(rt, b"record", 2, &mut near);
+    recorded(rt, &far[..f], &near[..n])
 }
 
-fn main() {
-    if os::arg_count() != 11 {
-        named::say(b"record", b"ten words are asked for: ./record gives them");
-        told::status(2);
-        return;
+fn run(rt: HostRuntime) -> u64 {
+    if named::words(&rt) != 11 {
+        named::say(
+            rt.stderr(),
+            b"record",
+            b"ten words are asked for: ./record gives them",
+        );
+        return 2;
     }
-    let status = named_files();
-    if status != 0 {
-        told::status(status);
-    }
+    named_files(rt)
+}
+
+fn main(rt: HostRuntime) -> ExitCode {
+    told::status(run(rt))
 }

@@ -1,6 +1,9 @@
 // Numbers among the arguments. The front hands over decimal digits and nothing else; one too large becomes the largest.
 ghost use Rattle.std.specs.Prelude.{◌≤◌};
 
+use pipes::rooms;
+use std::env::Env;
+
 fn digit(b: u8) -> u64
     ensures { result ≤ 9 }
 {
@@ -26,14 +29,16 @@ fn decimal(text: &[u8]) -> u64 {
     value
 }
 
-pub fn argument(i: usize) -> u64 {
-    let mut text = io::buffer();
-    let n = os::arg(i, &mut text);
-    decimal(&text[..n])
+pub fn argument(rt: &impl Env, i: usize) -> u64 {
+    let mut text = rooms::name();
+    match rt.arg(i, &mut text) {
+        Ok(n) => decimal(&text[..n]),
+        Err(_) => decimal(b""),
+    }
 }
 
-pub fn argument32(i: usize) -> u32 {
-    let n = argument(i);
+pub fn argument32(rt: &impl Env, i: usize) -> u32 {
+    let n = argument(rt, i);
     if n <= 0xffff_ffff {
         return n as u32;
     }

@@ -3,7 +3,9 @@ ghost use Rattle.std.specs.Prelude.{◌≡◌, ◌≤◌, length};
 
 use super::sounds::Source;
 use super::words;
-use pipes::named;
+use pipes::{named, rooms, told};
+use std::fs::File;
+use std::io::Stderr;
 use wav::Kind;
 
 fn least(a: usize, b: usize) -> usize
@@ -39,9 +41,10 @@ fn part_of(frame: u32, left: usize) -> usize
 
 // Moves the samples of the next n bytes of frames.
 fn move_part(
-    from: Source,
+    err: Stderr,
+    from: &Source,
     name: &[u8],
-    to: i32,
+    to: &File,
     into: &[u8],
     n: usize,
     frames: &mut [u8],
@@ -49,27 +52,30 @@ fn move_part(
 ) -> bool
     requires { (n ≤ 65536) × (length frames.old ≡ 65536) × (length room.old ≡ 65536) }
 {
-    let got = io::read_full(from.fd, &mut frames[..n]);
+    let got = rooms::fill(Some(&from.file), &mut frames[..n]);
     if got < n {
-        words::tell(name, b"it could not be read to its end");
+        words::tell(err, name, b"it could not be read to its end");
         return false;
     }
     let sound = from.sound;
     let kind = sound.kind;
     let samples = wav::take_channel(kind, sound.channels, from.channel, &frames[..n], room);
     let bytes = bytes_of(kind, samples);
-    if io::write_all(to, &room[..bytes]) {
-        return true;
+    match told::write(to, &room[..bytes]) {
+        Ok(()) => true,
+        Err(why) => {
+            named::fail(err, b"record", into, why);
+            false
+        }
     }
-    named::fail(b"record", into);
-    false
 }
 
 // Moves them all.
 fn move_all(
-    from: Source,
+    err: Stderr,
+    from: &Source,
     name: &[u8],
-    to: i32,
+    to: &File,
     into: &[u8],
     frames: &mut [u8],
     room: &mut [u8],
@@ -85,7 +91,7 @@ fn move_all(
         if n == 0 {
             return false;
         }
-        if !move_part(from, name, to, into, n, frames, room) {
+        if !move_part(err, from, name, to, into, n, frames, room) {
             return false;
         }
         left -= n;
@@ -93,14 +99,20 @@ fn move_all(
     true
 }
 
+fn copy_from(err: Stderr, from: &Source, name: &[u8], to: &File, into: &[u8]) -> bool {
+    let mut frames = rooms::large();
+    let mut room = rooms::large();
+    move_all(err, from, name, to, into, &mut frames, &mut room)
+}
+
 // Copies the channel from the file of one name into that of the other, and says what went wrong.
-pub fn copy(from: Source, name: &[u8], to: i32, into: &[u8]) -> bool {
+pub fn copy(err: Stderr, from: &Source, name: &[u8], to: &File, into: &[u8]) -> bool {
     let sound = from.sound;
-    if !named::go_to(from.fd, sound.at) {
-        named::fail(b"record", name);
-        return false;
+    match named::go_to(&from.file, sound.at) {
+        Ok(()) => copy_from(err, from, name, to, into),
+        Err(why) => {
+            named::fail(err, b"record", name, why);
+            false
+        }
     }
-    let mut frames = io::large_buffer();
-    let mut room = io::large_buffer();
-    move_all(from, name, to, into, &mut frames, &mut room)
 }

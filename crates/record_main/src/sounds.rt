@@ -1,12 +1,14 @@
 // A sound file, opened and judged.
 use super::words;
-use pipes::named;
+use pipes::{named, rooms};
+use std::fs::File;
+use std::io::Stderr;
 use wav::{Answer, Sound};
 
 // The channel of a sound file that a side is made of. The first is 0.
 #[derive(Drop)]
 pub struct Source {
-    pub fd: i32,
+    pub file: File,
     pub channel: u16,
     pub sound: Sound,
 }
@@ -17,7 +19,7 @@ pub enum Found {
     Nothing,
 }
 
-#[derive(Drop)]
+#[derive(Clone, Copy)]
 enum Choice {
     Channel(u16),
     None,
@@ -40,55 +42,57 @@ fn chosen(channels: u16, asked: u64) -> Choice {
     Choice::Channel((asked - 1) as u16)
 }
 
-fn taken(name: &[u8], fd: i32, sound: Sound, asked: u64) -> Found {
+fn taken(err: Stderr, name: &[u8], file: File, sound: Sound, asked: u64) -> Found {
     let channels = sound.channels;
     let Choice::Channel(channel) = chosen(channels, asked) else {
-        words::refuse_channel(name, channels, asked);
+        words::refuse_channel(err, name, channels, asked);
         return Found::Nothing;
     };
-    Found::Sound(Source { fd, channel, sound })
+    Found::Sound(Source {
+        file,
+        channel,
+        sound,
+    })
 }
 
 // Reads the head and has it judged.
-fn judged(name: &[u8], fd: i32, length: u64, asked: u64) -> Found {
-    let mut head = io::large_buffer();
-    let n = io::read_full(fd, &mut head);
+fn judged(err: Stderr, name: &[u8], file: File, length: u64, asked: u64) -> Found {
+    let mut head = rooms::large();
+    let n = rooms::fill(Some(&file), &mut head);
     if (n as u64) < answers::smaller(length, 65536) {
-        words::tell(name, b"it could not be read to its end");
+        words::tell(err, name, b"it could not be read to its end");
         return Found::Nothing;
     }
     let answer = wav::open(&head[..n], length);
     match answer {
-        Answer::Opened(sound) => taken(name, fd, sound, asked),
+        Answer::Opened(sound) => taken(err, name, file, sound, asked),
         Answer::Refused(reason) => {
-            words::refuse(name, reason);
+            words::refuse(err, name, reason);
             Found::Nothing
         }
     }
 }
 
-// A length that is not negative, as a number without a sign.
-fn unsigned(n: i64) -> u64 {
-    if n < 0 {
-        return 0;
+fn measured(err: Stderr, name: &[u8], file: File, length: u64, asked: u64) -> Found {
+    match named::go_to(&file, 0) {
+        Ok(()) => judged(err, name, file, length, asked),
+        Err(why) => {
+            named::fail(err, b"record", name, why);
+            Found::Nothing
+        }
     }
-    n as u64
 }
 
 // Opens a sound file, or says why not.
-pub fn open(name: &[u8], asked: u64) -> Found {
-    let fd = named::open(b"record", name);
-    if fd < 0 {
+pub fn open(rt: HostRuntime, name: &[u8], asked: u64) -> Found {
+    let Some(file) = named::open(rt, b"record", name) else {
         return Found::Nothing;
+    };
+    match named::length_of(&file) {
+        Ok(length) => measured(rt.stderr(), name, file, length, asked),
+        Err(_) => {
+            words::tell(rt.stderr(), name, b"it must be a file and no pipe");
+            Found::Nothing
+        }
     }
-    let length = libc::lseek(fd, 0, libc::SEEK_END);
-    if length < 0 {
-        words::tell(name, b"it must be a file and no pipe");
-        return Found::Nothing;
-    }
-    if !named::go_to(fd, 0) {
-        named::fail(b"record", name);
-        return Found::Nothing;
-    }
-    judged(name, fd, unsigned(length), asked)
 }

@@ -1,11 +1,14 @@
 // The header of a recording, read from a file: 24 bytes, and 4 more only where these say that it has them. No byte behind the header is read for it. It is proved to be safe
 // and to end.
+#![tactic(auto)]
+
 ghost use Rattle.std.specs.Prelude.{◌≡◌, length};
 ghost use Rattle.pipes.specs.Window.{Within};
 
 use pipes::window;
 use pipes::window::Window;
 use recording::Start;
+use std::fs::File;
 
 // The first 24 bytes are at hand: so many more may be read.
 fn behind(head: Window, most: u64, room: &[u8]) -> Window
@@ -22,13 +25,13 @@ fn behind(head: Window, most: u64, room: &[u8]) -> Window
 }
 
 // Reads the header at the start of the events, which are at most so many bytes.
-pub fn read(events: i32, most: u64, room: &mut [u8]) -> Window
+pub fn read(events: Option<&File>, most: u64, room: &mut [u8]) -> Window
     requires { length room.old ≡ 65536 }
     ensures { Within result }
 {
-    let first = window::read_all(window::fresh(events, answers::smaller(most, 24)), room);
+    let first = window::read_all(window::fresh(answers::smaller(most, 24)), events, room);
     let more = behind(first, most, room);
-    window::read_all(more, room)
+    window::read_all(more, events, room)
 }
 
 // What stands in the bytes of the header.

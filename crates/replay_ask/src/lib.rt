@@ -1,4 +1,6 @@
 // The next line of a log, from the bytes at hand of the three inputs: `next` is handed these and nothing else.
+#![tactic(auto)]
+
 ghost use Rattle.std.specs.Prelude.{◌≡◌, length};
 ghost use Rattle.scan_score.specs.Observing.{lent};
 ghost use Rattle.replay_stream.specs.Stream.{next_line};

@@ -1,25 +1,30 @@
 // What a replay came to, once no line comes any more: the last of the log is written, or the verdict on a log told. It is proved to be safe and to end.
+#![tactic(auto)]
+
 ghost use Rattle.std.specs.Prelude.{◌≡◌, length};
 ghost use Rattle.pipes.specs.Window.{Within};
 ghost use Rattle.replay_sink.specs.Sink.{Fits};
 
-use libc::STDOUT_FILENO;
 use log_hold::{Check, Verdict};
 use log_lines::{Line, Written};
 use log_sink::Text;
-use pipes::{told, window};
+use pipes::reason::Reason;
+use pipes::told::Watch;
+use pipes::{reason, told, window};
 use replay_sink::Sink;
 use replay_stream::Answer;
+use std::fs::File;
+use std::io::Stdout;
 
 // How a replay ended. Done: the log is out, or was found right. Amiss: it is out, and has a refusal or a `bad` line. Wrong: the log that was checked is wrong. Unread: a read of
-// input 1 (events), 2 (far samples), 3 (near samples) or 4 (the log) failed. Unwritten: a write failed. Broken: the library's answer fits no recording, which its theorems rule out.
-#[derive(Drop)]
+// input 1 (events), 2 (far samples), 3 (near samples) or 4 (the log) failed, and why. Unwritten: a write failed, and why. Broken: the library's answer fits no recording, which its theorems rule out.
+#[derive(Clone, Copy)]
 pub enum Outcome {
     Done,
     Amiss,
     Wrong,
-    Unread(u8),
-    Unwritten,
+    Unread(u8, Reason),
+    Unwritten(Reason),
     Broken,
 }
 
@@ -27,7 +32,7 @@ pub enum Outcome {
 
 fn outcome_of_text(text: Text, over: bool) -> Outcome {
     if !text.good {
-        return Outcome::Unwritten;
+        return Outcome::Unwritten(text.reason);
     }
     if !over {
         return Outcome::Broken;
@@ -38,30 +43,31 @@ fn outcome_of_text(text: Text, over: bool) -> Outcome {
     Outcome::Done
 }
 
-fn write_first(n: usize, text: &[u8], watched: bool) -> bool {
+fn write_first(out: Stdout, n: usize, text: &[u8], watched: Watch) -> Result<(), Reason> {
     if text.len() < n {
-        return false;
+        return Err(reason::none());
     }
-    told::drain(STDOUT_FILENO, &text[..n], watched)
+    told::drain(out, &text[..n], watched)
 }
 
-// The verdict in words; whether they were written.
+// The verdict in words, or why they were not written.
 fn say_in(
+    out: Stdout,
     line: u64,
     verdict: Verdict,
     hand: &[u8],
     ended: bool,
-    watched: bool,
+    watched: Watch,
     text: &mut [u8],
-) -> bool {
+) -> Result<(), Reason> {
     match log_says::write_verdict(line, verdict, hand, ended, text) {
-        Written::NoRoom => false,
-        Written::Bytes(n) => write_first(n, text, watched),
+        Written::NoRoom => Err(reason::none()),
+        Written::Bytes(n) => write_first(out, n, text, watched),
     }
 }
 
 // The same of a window's bytes.
-fn say(check: Check, watched: bool, room: &[u8]) -> bool
+fn say(out: Stdout, check: Check, watched: Watch, room: &[u8]) -> Result<(), Reason>
     requires { (Within check.log) × (length room.now ≡ 65536) }
 {
     let log = check.log;
@@ -70,6 +76,7 @@ fn say(check: Check, watched: bool, room: &[u8]) -> bool
     let end = log.end;
     let mut text = [0u8; 256];
     say_in(
+        out,
         check.line,
         verdict,
         &room[at..end],
@@ -79,52 +86,67 @@ fn say(check: Check, watched: bool, room: &[u8]) -> bool
     )
 }
 
-fn said(done: bool, outcome: Outcome) -> Outcome {
-    if done {
-        return outcome;
+fn said(done: Result<(), Reason>, outcome: Outcome) -> Outcome {
+    match done {
+        Ok(()) => outcome,
+        Err(why) => Outcome::Unwritten(why),
     }
-    Outcome::Unwritten
 }
 
 // A log that could not be read has no verdict.
-fn outcome_of_check(check: Check, watched: bool, room: &[u8]) -> Outcome
+fn outcome_of_check(out: Stdout, check: Check, watched: Watch, room: &[u8]) -> Outcome
     requires { (Within check.log) × (length room.now ≡ 65536) }
 {
     if check.log.failed {
-        return Outcome::Unread(4);
+        return Outcome::Unread(4, check.log.reason);
     }
     let verdict = check.verdict;
     match verdict {
         Verdict::Going => Outcome::Broken,
-        Verdict::Accepted => said(say(check, watched, room), Outcome::Done),
-        Verdict::Wrong(_due) => said(say(check, watched, room), Outcome::Wrong),
+        Verdict::Accepted => said(say(out, check, watched, room), Outcome::Done),
+        Verdict::Wrong(_due) => said(say(out, check, watched, room), Outcome::Wrong),
     }
 }
 
-fn outcome_of(sink: Sink, over: bool, watched: bool, room: &[u8]) -> Outcome
+fn outcome_of(out: Stdout, sink: Sink, over: bool, watched: Watch, room: &[u8]) -> Outcome
     requires { Fits sink room.now }
 {
     match sink {
         Sink::Writes(text) => outcome_of_text(text, over),
-        Sink::Checks(check) => outcome_of_check(check, watched, room),
+        Sink::Checks(check) => outcome_of_check(out, check, watched, room),
     }
 }
 
 // No line comes any more. A recording that could not be read has no log.
-pub fn closed(sink: Sink, unread: u8, over: bool, watched: bool, room: &mut [u8]) -> Outcome
+pub fn closed(
+    out: Stdout,
+    sink: Sink,
+    unread: u8,
+    why: Reason,
+    over: bool,
+    watched: Watch,
+    log: Option<&File>,
+    room: &mut [u8],
+) -> Outcome
     requires { Fits sink room.old }
 {
-    let last = replay_sink::finish(sink, over, room);
+    let last = replay_sink::finish(sink, over, log, room);
     if unread != 0 {
-        return Outcome::Unread(unread);
+        return Outcome::Unread(unread, why);
     }
-    outcome_of(last, over, watched, room)
+    outcome_of(out, last, over, watched, room)
 }
 
 // A log of the one line `bad header`.
-pub fn unopened(sink: Sink, watched: bool, room: &mut [u8]) -> Outcome
+pub fn unopened(
+    out: Stdout,
+    sink: Sink,
+    watched: Watch,
+    log: Option<&File>,
+    room: &mut [u8],
+) -> Outcome
     requires { Fits sink room.old }
 {
-    let one = replay_sink::take(sink, Answer::Says(Line::BadHeader), room);
-    closed(one, 0, true, watched, room)
+    let one = replay_sink::take(sink, Answer::Says(Line::BadHeader), log, room);
+    closed(out, one, 0, reason::none(), true, watched, log, room)
 }

@@ -1,14 +1,20 @@
 // A recording in three open files, replayed: the lines of its log are written to a fourth, or held against a log there. This crate makes the room and opens the recording; `replay_run`
 // goes on from there. It is proved to be safe and to end.
+#![tactic(auto)]
+
 ghost use Rattle.std.specs.Prelude.{◌≡◌, ◌≤◌, length};
 ghost use Rattle.replay_inputs.specs.Inputs.{AllWithin};
 ghost use Rattle.replay_sink.specs.Sink.{Fits, FitsAny};
 
+use pipes::rooms;
+use pipes::told::Watch;
 use recording::{Header, Start};
 use replay_close::Outcome;
-use replay_inputs::{Inputs, Most};
+use replay_inputs::{Files, Inputs, Most};
 use replay_sink::{Goal, Sink};
 use scan_calls::rules;
+use std::fs::File;
+use std::io::Stdout;
 
 fn least(a: u64, b: usize) -> usize
     ensures { result ≤ b }
@@ -18,10 +24,13 @@ fn least(a: u64, b: usize) -> usize
 
 // The buffers are long enough for every rate and ceiling. Each is lent as far as the header asks.
 fn sized(
+    out: Stdout,
     header: Header,
     inputs: Inputs,
     sink: Sink,
-    watched: bool,
+    watched: Watch,
+    files: &Files<'_>,
+    log: Option<&File>,
     events: &mut [u8],
     far: &mut [u8],
     near: &mut [u8],
@@ -46,10 +55,13 @@ fn sized(
     let s = least(g.span + 1, scores.len());
     let t = least(g.span + 1, lag_sums.len());
     replay_run::started(
+        out,
         header,
         inputs,
         sink,
         watched,
+        files,
+        log,
         events,
         far,
         near,
@@ -96,12 +108,20 @@ fn lags_space() -> [f64; 4249]
 }
 
 // A recording with a good header: all the room that its replay needs is made here.
-fn opened(header: Header, inputs: Inputs, sink: Sink, watched: bool) -> Outcome
+fn opened(
+    out: Stdout,
+    header: Header,
+    inputs: Inputs,
+    sink: Sink,
+    watched: Watch,
+    files: &Files<'_>,
+    log: Option<&File>,
+) -> Outcome
     requires { (AllWithin inputs) × (FitsAny sink) }
 {
-    let mut event_bytes = io::large_buffer();
-    let mut far_bytes = io::large_buffer();
-    let mut near_bytes = io::large_buffer();
+    let mut event_bytes = rooms::large();
+    let mut far_bytes = rooms::large();
+    let mut near_bytes = rooms::large();
     let mut envelope = envelope_space();
     let mut levels = levels_space();
     let mut window = window_space();
@@ -109,12 +129,15 @@ fn opened(header: Header, inputs: Inputs, sink: Sink, watched: bool) -> Outcome
     let mut squares = prefix_space();
     let mut scores = lags_space();
     let mut lag_sums = lags_space();
-    let mut log = io::large_buffer();
+    let mut log_bytes = rooms::large();
     sized(
+        out,
         header,
         inputs,
         sink,
         watched,
+        files,
+        log,
         &mut event_bytes,
         &mut far_bytes,
         &mut near_bytes,
@@ -125,39 +148,50 @@ fn opened(header: Header, inputs: Inputs, sink: Sink, watched: bool) -> Outcome
         &mut squares,
         &mut scores,
         &mut lag_sums,
-        &mut log,
+        &mut log_bytes,
     )
 }
 
 fn run_in(
-    events: i32,
-    far: i32,
-    near: i32,
+    out: Stdout,
+    files: &Files<'_>,
+    log: Option<&File>,
     most: Most,
     goal: Goal,
-    watched: bool,
+    watched: Watch,
     room: &mut [u8],
 ) -> Outcome
     requires { length room.old ≡ 65536 }
 {
     let sink = replay_sink::fresh(goal, watched);
-    let head = recording_head::read(events, most.events, room);
+    let head = recording_head::read(files.events, most.events, room);
     if head.failed {
-        return Outcome::Unread(1);
+        return Outcome::Unread(1, head.reason);
     }
     match recording_head::opened(head, room) {
-        Start::BadHeader => replay_close::unopened(sink, watched, room),
+        Start::BadHeader => replay_close::unopened(out, sink, watched, log, room),
         Start::Opened(header) => opened(
+            out,
             header,
-            replay_inputs::announced(events, far, near, header, most),
+            replay_inputs::announced(header, most),
             sink,
             watched,
+            files,
+            log,
         ),
     }
 }
 
-// Replays the recording in three open files, each of at most so many bytes from where it stands. Of the events only the header is read before it is known.
-pub fn run(events: i32, far: i32, near: i32, most: Most, goal: Goal, watched: bool) -> Outcome {
-    let mut room = io::large_buffer();
-    run_in(events, far, near, most, goal, watched, &mut room)
+// Replays the recording in three open files, each of at most so many bytes from where it stands, beside the open file of a log that is checked. Of the events only the header is read before
+// it is known. What a log is found to be is told on `out`.
+pub fn run(
+    out: Stdout,
+    files: &Files<'_>,
+    log: Option<&File>,
+    most: Most,
+    goal: Goal,
+    watched: Watch,
+) -> Outcome {
+    let mut room = rooms::large();
+    run_in(out, files, log, most, goal, watched, &mut room)
 }

@@ -1,5 +1,5 @@
 -- A window that is passed, and read on or not.
-use Prim.Native.Nat.{ℕ, ◌≤◌}
+use Prim.Native.Nat.{ℕ}
 use mathlib.Core.Path.{◌≡◌, refl, sym, subst}
 use mathlib.Core.Bool.{Bool, true, false}
 use mathlib.Core.List.{List}
@@ -11,7 +11,7 @@ use Rattle.replay_stream.specs.declared.Bytes.{Bytes}
 use Rattle.replay_stream.specs.declared.Input.{Input}
 use Rattle.replay_stream.specs.declared.Input.TheVariants.{Entries, FarSide, NearSide}
 use Rattle.replay_stream.specs.declared.Answer.{Answer}
-use Rattle.replay_stream.specs.declared.Answer.TheVariants.{Says, Silent, Wants, Over}
+use Rattle.replay_stream.specs.declared.Answer.TheVariants.{Wants}
 use Rattle.replay_inputs.specs.Inputs.{AllWithin, is_input, wanted_by, WentOn, Passed, AllPassed, ReadOn, OneRead}
 use Rattle.replay_inputs.specs.declared.Inputs.{Inputs}
 

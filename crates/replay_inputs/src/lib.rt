@@ -1,22 +1,34 @@
 // The three inputs of a recording, each behind a window. Proved: what is handed to `next` are the bytes at hand; behind its answer those are gone that it used, and the
 // bytes of a read stand behind the others.
+#![tactic(auto)]
+
 ghost use Rattle.std.specs.Prelude.{◌≡◌, length};
 ghost use Rattle.replay_inputs.specs.Inputs.{AllWithin, AllPassed, OneRead, WentOn, ended_at};
 
-use pipes::window;
+use pipes::reason::Reason;
 use pipes::window::Window;
+use pipes::{reason, window};
 use recording::Header;
 use replay_stream::{Answer, Bytes, Ended, Input};
+use std::fs::File;
 
-#[derive(Drop)]
+#[derive(Clone, Copy)]
 pub struct Inputs {
     pub events: Window,
     pub far: Window,
     pub near: Window,
 }
 
+// The open files that the inputs are read from. Of one that is not there every read fails.
+#[derive(Clone, Copy)]
+pub struct Files<'a> {
+    pub events: Option<&'a File>,
+    pub far: Option<&'a File>,
+    pub near: Option<&'a File>,
+}
+
 // How many bytes each input has at most.
-#[derive(Drop)]
+#[derive(Clone, Copy)]
 pub struct Most {
     pub events: u64,
     pub far: u64,
@@ -28,7 +40,7 @@ fn least(a: u64, b: u64) -> u64 {
 }
 
 // Behind the header no byte past what it announces is read.
-pub fn announced(events: i32, far: i32, near: i32, header: Header, most: Most) -> Inputs
+pub fn announced(header: Header, most: Most) -> Inputs
     ensures { AllWithin result }
 {
     let form = header.form;
@@ -36,15 +48,12 @@ pub fn announced(events: i32, far: i32, near: i32, header: Header, most: Most) -
     let far_bytes = recording::bytes_of(form, header.far);
     let near_bytes = recording::bytes_of(form, header.near);
     Inputs {
-        events: window::fresh(
-            events,
-            least(
-                answers::saturating_sub(most.events, offset),
-                16 * header.events as u64,
-            ),
-        ),
-        far: window::fresh(far, least(most.far, far_bytes)),
-        near: window::fresh(near, least(most.near, near_bytes)),
+        events: window::fresh(least(
+            answers::saturating_sub(most.events, offset),
+            16 * header.events as u64,
+        )),
+        far: window::fresh(least(most.far, far_bytes)),
+        near: window::fresh(least(most.near, near_bytes)),
     }
 }
 
@@ -74,6 +83,7 @@ fn past(inputs: Inputs, used: Bytes) -> Inputs
 fn refill(
     inputs: Inputs,
     wanted: Input,
+    files: &Files<'_>,
     events: &mut [u8],
     far: &mut [u8],
     near: &mut [u8],
@@ -86,19 +96,19 @@ fn refill(
     let n = inputs.near;
     match wanted {
         Input::Entries => Inputs {
-            events: window::refill(e, events),
+            events: window::refill(e, files.events, events),
             far: f,
             near: n,
         },
         Input::FarSide => Inputs {
             events: e,
-            far: window::refill(f, far),
+            far: window::refill(f, files.far, far),
             near: n,
         },
         Input::NearSide => Inputs {
             events: e,
             far: f,
-            near: window::refill(n, near),
+            near: window::refill(n, files.near, near),
         },
     }
 }
@@ -108,6 +118,7 @@ pub fn go_on(
     inputs: Inputs,
     used: Bytes,
     answer: Answer,
+    files: &Files<'_>,
     events: &mut [u8],
     far: &mut [u8],
     near: &mut [u8],
@@ -119,7 +130,7 @@ pub fn go_on(
     match answer {
         Answer::Says(_line) => rest,
         Answer::Silent => rest,
-        Answer::Wants(input) => refill(rest, input, events, far, near),
+        Answer::Wants(input) => refill(rest, input, files, events, far, near),
         Answer::Over => rest,
     }
 }
@@ -136,4 +147,18 @@ pub fn failed(inputs: Inputs) -> u8 {
         return 3;
     }
     0
+}
+
+// Why that one has.
+pub fn reason_of(inputs: Inputs) -> Reason {
+    if inputs.events.failed {
+        return inputs.events.reason;
+    }
+    if inputs.far.failed {
+        return inputs.far.reason;
+    }
+    if inputs.near.failed {
+        return inputs.near.reason;
+    }
+    reason::none()
 }

@@ -1,7 +1,7 @@
 -- One turn as a call of a host, and where a host stands behind a history of turns.
 use Prim.Native.Nat.{ℕ, ◌≤◌}
 use mathlib.Core.Path.{◌≡◌, refl, sym, ap, subst, ◌∙◌}
-use mathlib.Core.List.{List, [], ◌++◌, append_assoc}
+use mathlib.Core.List.{List, ◌++◌, append_assoc}
 use lib.ListN.{length, drop}
 use lib.Seq.{drop-append-le}
 use Rattle.scan.specs.State.{Buffers}
@@ -10,11 +10,10 @@ use Rattle.pipes.specs.declared.window.Window.{Window}
 use Rattle.pipes.proofs.Going.{nothing_comes, hand_on}
 use Rattle.log_lines.specs.declared.Line.{Line}
 use Rattle.recording.specs.declared.Header.{Header}
-use Rattle.replay_stream.specs.Stream.{Hand, next_line}
 use Rattle.replay_stream.specs.Giving.{gives}
 use Rattle.replay_stream.specs.Hosts.{Rest, rest, rest_after, NextCall}
 use Rattle.replay_stream.specs.declared.Place.{Place}
-use Rattle.replay_stream.proofs.Standing.{Stands, Fits}
+use Rattle.replay_stream.proofs.Standing.{Fits}
 use Rattle.replay_stream.proofs.Turning as turning
 use Rattle.replay_inputs.specs.Inputs.{hand_at}
 use Rattle.replay_step.specs.Step.{Turn}

@@ -1,12 +1,11 @@
 -- The lines that the loop is told are the log of the bytes that it read.
 use Prim.Native.Nat.{ℕ}
 use mathlib.Core.Path.{◌≡◌, refl, sym, ap, subst, ◌∙◌}
-use mathlib.Core.Bool.{Bool, true, false, true≢false, false≢true}
+use mathlib.Core.Bool.{true, false, true≢false, false≢true}
 use mathlib.Core.List.{List, [], ◌∷◌, ◌++◌, append_assoc}
 use lib.ListN.{drop}
 use Rattle.scan.specs.State.{Buffers}
 use Rattle.log_lines.specs.declared.Line.{Line}
-use Rattle.log_text.proofs.Text.{append_nothing}
 use Rattle.recording.specs.Recording.{offset_of, opened, header_length}
 use Rattle.recording.specs.declared.Header.{Header}
 use Rattle.recording.specs.declared.Start.TheVariants as start
@@ -14,7 +13,7 @@ use Rattle.replay.specs.Beginning.{beginning, beginning_of}
 use Rattle.replay.specs.Log.{log_of}
 use Rattle.replay.specs.declared.Session.{Session}
 use Rattle.replay.specs.declared.Begun.TheVariants as begun
-use Rattle.replay_stream.specs.Stream.{Piece, short, next_line}
+use Rattle.replay_stream.specs.Stream.{Piece, short}
 use Rattle.replay_stream.specs.Hosts.{Rest, rest, rest_after, Front, NextCall, Noted, noted, opens, Streamed, Streams}
 use Rattle.replay_stream.specs.Hosts as hosts
 use Rattle.replay_stream.specs.declared.Place.{Place}

@@ -10,7 +10,7 @@ use Rattle.replay_inputs.specs.Inputs.{AllWithin}
 use Rattle.replay_sink.specs.Sink.{Open}
 use Rattle.replay_step.specs.Step.{Turn}
 use Rattle.replay_step.specs.declared.Stream.{Stream}
-use Rattle.replay_loop.specs.Turns.{behind, came_by, log_by, said_by, Turns, none, more, Played}
+use Rattle.replay_loop.specs.Turns.{behind, came_by, log_by, said_by, none, more, Played}
 
 pub begun : (h : Header) (s : Stream) (b : Buffers) (e f n room : List ℕ) → Played h s b e f n room s b e f n room
 begun h s b e f n room = record { came = rest [] [] []; log = []; lines = []; turns = none }

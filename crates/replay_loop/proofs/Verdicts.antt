@@ -3,25 +3,25 @@ use Prim.Native.Nat.{ℕ, ◌+◌, ◌-◌, ◌^◌, ◌≤◌, ◌<◌}
 use native.Mathlib.Omega.{arith}
 use mathlib.Core.Path.{◌≡◌, refl, sym, ap, subst, ◌∙◌}
 use mathlib.Core.Bool.{Bool, true, false, true≢false, false≢true}
-use mathlib.Core.Logic.{◌⊎◌, inl, inr}
+use mathlib.Core.Logic.{inl, inr}
 use mathlib.Core.List.{List, [], ◌∷◌, ◌++◌, append_assoc}
 use lib.Dec.{eqb}
 use lib.ListN.{length, drop}
 use borrow.Author.Tests.{eqb-true, eq-eqb}
 use Rattle.answers.specs.Numbers.{next_long_count}
-use Rattle.answers.specs.Pick.{pick, pick_case}
+use Rattle.answers.specs.Pick.{pick_case}
 use Rattle.scan.specs.State.{Buffers}
 use Rattle.pipes.specs.Window.{at_hand, over}
 use Rattle.pipes.specs.declared.window.Window.{Window}
 use Rattle.log_lines.specs.Lines.{text_of}
 use Rattle.log_lines.specs.declared.Line.{Line}
 use Rattle.log_text.specs.Text.{same_text}
-use Rattle.log_text.specs.Apart.{Side, There, Apart, Same}
+use Rattle.log_text.specs.Apart.{Apart, Same}
 use Rattle.log_text.specs.declared.Piece.TheVariants as cut
 use Rattle.log_text.specs.declared.Piece as cuts
 use Rattle.log_text.specs.Cut.{cut_of}
 use Rattle.log_hold.specs.Held.{standing, held}
-use Rattle.log_hold.specs.Reading.{seen, Sought, After, Held}
+use Rattle.log_hold.specs.Reading.{Sought, After}
 use Rattle.log_hold.specs.declared.Check.{Check}
 use Rattle.log_hold.specs.declared.Due.{Due}
 use Rattle.log_hold.specs.declared.Due.TheVariants as due

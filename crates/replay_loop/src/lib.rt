@@ -1,5 +1,7 @@
 // A host's loop: turn after turn, until the log is over, a log that is checked is found wrong, or a read or a write fails. Proved: it comes to the log of the bytes that were
 // read, line by line; and the verdict on a log that is checked is the one on the bytes that were read.
+#![tactic(auto)]
+
 ghost use Rattle.std.specs.Prelude.{◌≡◌, true, false, ◌-◌, ◌^◌, ◌<◌, length};
 ghost use Rattle.scan_score.specs.Observing.{lent};
 ghost use Rattle.replay_inputs.specs.Inputs.{AllWithin};
@@ -7,7 +9,9 @@ ghost use Rattle.replay_sink.specs.Sink.{Fits, Open};
 ghost use Rattle.replay_loop.specs.Turns.{Played};
 
 use recording::Header;
+use replay_inputs::Files;
 use replay_step::Stream;
+use std::fs::File;
 
 // Until the log is over, no line is of use any more, or a read fails. The turns are counted so that the loop ends for certain: 2^64 of them take centuries.
 fn goes_on(stream: Stream, turns: u64) -> bool
@@ -30,6 +34,8 @@ fn goes_on(stream: Stream, turns: u64) -> bool
 pub fn all(
     header: Header,
     first: Stream,
+    files: &Files<'_>,
+    log: Option<&File>,
     events: &mut [u8],
     far: &mut [u8],
     near: &mut [u8],
@@ -49,8 +55,8 @@ pub fn all(
     let mut turns: u64 = 0;
     while goes_on(stream, turns) {
         stream = replay_step::turn(
-            header, stream, events, far, near, envelope, levels, window, prefix, squares, scores,
-            lag_sums, room,
+            header, stream, files, log, events, far, near, envelope, levels, window, prefix,
+            squares, scores, lag_sums, room,
         );
         turns = turns + 1;
     }

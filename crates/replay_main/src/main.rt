@@ -1,9 +1,14 @@
 // Replays a recording: `replay_main EVENTS FAR NEAR` writes its log to standard output. `./replay` is its front.
-use libc::STDOUT_FILENO;
-use pipes::{named, told};
+#![tactic(auto)]
+
+use pipes::reason::Reason;
+use pipes::{named, rooms, told};
 use replay_close::Outcome;
-use replay_inputs::Most;
+use replay_inputs::{Files, Most};
 use replay_sink::Goal;
+use std::fs::File;
+use std::io::Stderr;
+use std::process::ExitCode;
 
 fn whole_files() -> Most {
     Most {
@@ -13,83 +18,99 @@ fn whole_files() -> Most {
     }
 }
 
-fn name_unread(input: u8, events: &[u8], far: &[u8], near: &[u8]) {
+fn name_unread(err: Stderr, input: u8, why: Reason, events: &[u8], far: &[u8], near: &[u8]) {
     match input {
-        1 => named::fail(b"replay", events),
-        2 => named::fail(b"replay", far),
-        _ => named::fail(b"replay", near),
+        1 => named::fail(err, b"replay", events, why),
+        2 => named::fail(err, b"replay", far, why),
+        _ => named::fail(err, b"replay", near, why),
     }
 }
 
 // A reader that has gone away has had what it wanted.
-fn unwritten() -> u64 {
-    if told::unread() {
+fn unwritten(err: Stderr, why: Reason) -> u64 {
+    if told::unread(why) {
         return 0;
     }
-    named::fail(b"replay", b"standard output");
+    named::fail(err, b"replay", b"standard output", why);
     1
 }
 
 // What the program ends with: 0, 1 where a file could not be read or written, which standard error names, or 4 where the log has a refusal or a `bad` line.
-fn status_of(outcome: Outcome, events: &[u8], far: &[u8], near: &[u8]) -> u64 {
+fn status_of(err: Stderr, outcome: Outcome, events: &[u8], far: &[u8], near: &[u8]) -> u64 {
     match outcome {
         Outcome::Done => 0,
         Outcome::Amiss => 4,
         Outcome::Wrong => 3,
-        Outcome::Unread(input) => {
-            name_unread(input, events, far, near);
+        Outcome::Unread(input, why) => {
+            name_unread(err, input, why, events, far, near);
             1
         }
-        Outcome::Unwritten => unwritten(),
+        Outcome::Unwritten(why) => unwritten(err, why),
         Outcome::Broken => {
-            named::say(b"replay", b"the library's answer fits no recording");
+            named::say(err, b"replay", b"the library's answer fits no recording");
             1
         }
     }
 }
 
-fn replayed(events: &[u8], far: &[u8], near: &[u8]) -> u64 {
-    let e = named::open(b"replay", events);
-    if e < 0 {
+// The three files of a recording.
+#[derive(Drop)]
+struct Recording {
+    events: File,
+    far: File,
+    near: File,
+}
+
+// They are opened in their order, and the first that cannot be is named.
+fn opened(rt: HostRuntime, events: &[u8], far: &[u8], near: &[u8]) -> Option<Recording> {
+    let events = named::open(rt, b"replay", events)?;
+    let far = named::open(rt, b"replay", far)?;
+    let near = named::open(rt, b"replay", near)?;
+    Some(Recording { events, far, near })
+}
+
+fn replayed(rt: HostRuntime, events: &[u8], far: &[u8], near: &[u8]) -> u64 {
+    let Some(recording) = opened(rt, events, far, near) else {
         return 1;
-    }
-    let f = named::open(b"replay", far);
-    if f < 0 {
-        return 1;
-    }
-    let n = named::open(b"replay", near);
-    if n < 0 {
-        return 1;
-    }
+    };
+    let files = Files {
+        events: Some(&recording.events),
+        far: Some(&recording.far),
+        near: Some(&recording.near),
+    };
     let outcome = replay_host::run(
-        e,
-        f,
-        n,
+        rt.stdout(),
+        &files,
+        None,
         whole_files(),
-        Goal::Write(STDOUT_FILENO),
-        told::watched(),
+        Goal::Write(rt.stdout()),
+        told::watched(rt.stderr()),
     );
-    status_of(outcome, events, far, near)
+    status_of(rt.stderr(), outcome, events, far, near)
 }
 
-fn named_files() -> u64 {
-    let mut events = io::buffer();
-    let mut far = io::buffer();
-    let mut near = io::buffer();
-    let e = named::argument(b"replay", 1, &mut events);
-    let f = named::argument(b"replay", 2, &mut far);
-    let n = named::argument(b"replay", 3, &mut near);
-    replayed(&events[..e], &far[..f], &near[..n])
+fn named_files(rt: HostRuntime) -> u64 {
+    let mut events = rooms::name();
+    let mut far = rooms::name();
+    let mut near = rooms::name();
+    let e = named::argument(rt, b"replay", 1, &mut events);
+    let f = named::argument(rt, b"replay", 2, &mut far);
+    let n = named::argument(rt, b"replay", 3, &mut near);
+    replayed(rt, &events[..e], &far[..f], &near[..n])
 }
 
-fn main() {
-    if os::arg_count() != 4 {
-        named::say(b"replay", b"three files make a recording: EVENTS FAR NEAR");
-        told::status(2);
-        return;
+fn run(rt: HostRuntime) -> u64 {
+    if named::words(&rt) != 4 {
+        named::say(
+            rt.stderr(),
+            b"replay",
+            b"three files make a recording: EVENTS FAR NEAR",
+        );
+        return 2;
     }
-    let status = named_files();
-    if status != 0 {
-        told::status(status);
-    }
+    named_files(rt)
+}
+
+fn main(rt: HostRuntime) -> ExitCode {
+    told::status(run(rt))
 }

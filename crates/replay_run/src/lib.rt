@@ -1,15 +1,20 @@
 // From the header of a recording to the end of its log: the session is started, `replay_loop::all` takes turn after turn, and `replay_close` tells what that came to. It is proved to be
 // safe and to end.
+#![tactic(auto)]
+
 ghost use Rattle.std.specs.Prelude.{◌≡◌, length};
 ghost use Rattle.replay_inputs.specs.Inputs.{AllWithin};
 ghost use Rattle.replay_sink.specs.Sink.{Fits};
 
+use pipes::told::Watch;
 use recording::Header;
 use replay::{Begun, Session};
 use replay_close::Outcome;
-use replay_inputs::Inputs;
+use replay_inputs::{Files, Inputs};
 use replay_sink::Sink;
 use replay_step::Stream;
+use std::fs::File;
+use std::io::Stdout;
 
 // The log from its first line on.
 fn played(
@@ -17,7 +22,9 @@ fn played(
     session: Session,
     inputs: Inputs,
     sink: Sink,
-    watched: bool,
+    watched: Watch,
+    files: &Files<'_>,
+    log: Option<&File>,
     events: &mut [u8],
     far: &mut [u8],
     near: &mut [u8],
@@ -35,17 +42,20 @@ fn played(
 {
     let first = replay_step::opening(session, inputs, sink, watched);
     replay_loop::all(
-        header, first, events, far, near, envelope, levels, window, prefix, squares, scores,
-        lag_sums, room,
+        header, first, files, log, events, far, near, envelope, levels, window, prefix, squares,
+        scores, lag_sums, room,
     )
 }
 
 fn ended(
+    out: Stdout,
     header: Header,
     session: Session,
     inputs: Inputs,
     sink: Sink,
-    watched: bool,
+    watched: Watch,
+    files: &Files<'_>,
+    log: Option<&File>,
     events: &mut [u8],
     far: &mut [u8],
     near: &mut [u8],
@@ -61,20 +71,32 @@ fn ended(
     requires { (AllWithin inputs) × (length events.old ≡ 65536) × (length far.old ≡ 65536) × (length near.old ≡ 65536) × (Fits sink room.old) }
 {
     let last = played(
-        header, session, inputs, sink, watched, events, far, near, envelope, levels, window,
-        prefix, squares, scores, lag_sums, room,
+        header, session, inputs, sink, watched, files, log, events, far, near, envelope, levels,
+        window, prefix, squares, scores, lag_sums, room,
     );
     let sink = last.sink;
     let unread = replay_inputs::failed(last.inputs);
-    replay_close::closed(sink, unread, last.over, watched, room)
+    replay_close::closed(
+        out,
+        sink,
+        unread,
+        replay_inputs::reason_of(last.inputs),
+        last.over,
+        watched,
+        log,
+        room,
+    )
 }
 
 // With buffers of the lengths that the header asks for.
 pub fn started(
+    out: Stdout,
     header: Header,
     inputs: Inputs,
     sink: Sink,
-    watched: bool,
+    watched: Watch,
+    files: &Files<'_>,
+    log: Option<&File>,
     events: &mut [u8],
     far: &mut [u8],
     near: &mut [u8],
@@ -94,8 +116,8 @@ pub fn started(
     ) {
         Begun::Refused(_) => Outcome::Broken,
         Begun::Ready(session) => ended(
-            header, session, inputs, sink, watched, events, far, near, envelope, levels, window,
-            prefix, squares, scores, lag_sums, room,
+            out, header, session, inputs, sink, watched, files, log, events, far, near, envelope,
+            levels, window, prefix, squares, scores, lag_sums, room,
         ),
     }
 }

@@ -6,7 +6,6 @@ use mathlib.Core.Bool.{Bool, true, false}
 use mathlib.Core.List.{List}
 use lib.ListN.{length}
 use Rattle.pipes.specs.Window.{Within}
-use Rattle.pipes.specs.declared.window.Window.{Window}
 use Rattle.log_lines.specs.declared.Line.{Line}
 use Rattle.log_sink.specs.Sink.{Wrote}
 use Rattle.log_sink.specs.declared.Text.{Text}

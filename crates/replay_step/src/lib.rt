@@ -1,5 +1,7 @@
 // One turn of a host: `next` is asked over the bytes at hand, and its answer is heeded. Proved: `next` is handed these bytes and nothing else, a line goes where lines go once
 // and whole, and what `next` left is handed on.
+#![tactic(auto)]
+
 ghost use Rattle.std.specs.Prelude.{◌≡◌, false, ◌≤◌, length};
 ghost use Rattle.scan_score.specs.Observing.{lent};
 ghost use Rattle.replay_stream.specs.Hosts.{opens};
@@ -8,24 +10,27 @@ ghost use Rattle.replay_sink.specs.Sink.{Fits};
 ghost use Rattle.replay_step.specs.Step.{is_over, Heeded, Turn};
 
 use pipes::told;
+use pipes::told::Watch;
 use recording::Header;
 use replay::Session;
-use replay_inputs::Inputs;
+use replay_inputs::{Files, Inputs};
 use replay_sink::Sink;
 use replay_stream::{Answer, Input, Place, Stage, Turned};
+use std::fs::File;
+use std::io::Stderr;
 
-// Where the replay stands. `over`: nothing more comes. `watched`: a person watches standard error, where progress stands.
-#[derive(Drop)]
+// Where the replay stands. `over`: nothing more comes. `watched`: whether a person watches standard error, where progress stands.
+#[derive(Clone, Copy)]
 pub struct Stream {
     pub place: Place,
     pub inputs: Inputs,
     pub sink: Sink,
     pub over: bool,
-    pub watched: bool,
+    pub watched: Watch,
 }
 
 // Before the first line.
-pub fn opening(session: Session, inputs: Inputs, sink: Sink, watched: bool) -> Stream
+pub fn opening(session: Session, inputs: Inputs, sink: Sink, watched: Watch) -> Stream
     ensures { (result.inputs ≡ inputs) × (result.sink ≡ sink) × (result.place ≡ opens session) × (result.over ≡ false) }
 {
     Stream {
@@ -52,23 +57,23 @@ fn is_over(answer: Answer) -> bool
     }
 }
 
-fn tell_input(wanted: Input, done: u32, all: u32) {
+fn tell_input(err: Stderr, wanted: Input, done: u32, all: u32) {
     match wanted {
-        Input::Entries => told::progress(b"replay", done as u64, all as u64, b"events"),
+        Input::Entries => told::progress(err, b"replay", done as u64, all as u64, b"events"),
         Input::FarSide => {}
         Input::NearSide => {}
     }
 }
 
 // A read of the events tells a person how far the replay is: one is made for every 4,096 events.
-fn tell(watched: bool, answer: Answer, done: u32, all: u32) {
-    if !watched {
+fn tell(watched: Watch, answer: Answer, done: u32, all: u32) {
+    if !watched.on {
         return;
     }
     match answer {
         Answer::Says(_line) => {}
         Answer::Silent => {}
-        Answer::Wants(input) => tell_input(input, done, all),
+        Answer::Wants(input) => tell_input(watched.err, input, done, all),
         Answer::Over => {}
     }
 }
@@ -78,6 +83,8 @@ fn heed(
     all: u32,
     stream: Stream,
     turned: Turned,
+    files: &Files<'_>,
+    log: Option<&File>,
     events: &mut [u8],
     far: &mut [u8],
     near: &mut [u8],
@@ -91,8 +98,8 @@ fn heed(
     let before = stream.inputs;
     let sink = stream.sink;
     tell(stream.watched, answer, place.number, all);
-    let inputs = replay_inputs::go_on(before, turned.used, answer, events, far, near);
-    let next = replay_sink::take(sink, answer, room);
+    let inputs = replay_inputs::go_on(before, turned.used, answer, files, events, far, near);
+    let next = replay_sink::take(sink, answer, log, room);
     Stream {
         place,
         inputs,
@@ -106,6 +113,8 @@ fn heed(
 pub fn turn(
     header: Header,
     stream: Stream,
+    files: &Files<'_>,
+    log: Option<&File>,
     events: &mut [u8],
     far: &mut [u8],
     near: &mut [u8],
@@ -127,5 +136,15 @@ pub fn turn(
         header, place, inputs, events, far, near, envelope, levels, window, prefix, squares,
         scores, lag_sums,
     );
-    heed(header.events, stream, turned, events, far, near, room)
+    heed(
+        header.events,
+        stream,
+        turned,
+        files,
+        log,
+        events,
+        far,
+        near,
+        room,
+    )
 }

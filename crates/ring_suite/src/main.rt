@@ -1,28 +1,33 @@
 // Replays stored calls of the ring against the answers of the unchanged Rust, and writes how many were tried and how many differ.
 // tests/ring/README.md says how the file was made and what a record holds.
+#![tactic(auto)]
+
 ghost use Rattle.std.specs.Prelude.{◌≡◌, ◌+◌, ◌≤◌, length};
 
 use answers::Count;
+use pipes::rooms;
 use ring::{Kept, Ring};
+use std::fs::File;
+use std::io::Stdout;
 use vectors::Tally;
 use vectors::buffers::at_most;
 
 // The ring, the length of the buffer that it is lent, and the tally.
-#[derive(Drop)]
+#[derive(Clone, Copy)]
 struct Run {
     ring: Ring,
     capacity: usize,
     tally: Tally,
 }
 
-#[derive(Drop)]
+#[derive(Clone, Copy)]
 struct Answered {
     ring: Ring,
     same: bool,
 }
 
 // A run, and whether the file may have more.
-#[derive(Drop)]
+#[derive(Clone, Copy)]
 struct Step {
     run: Run,
     more: bool,
@@ -224,9 +229,9 @@ fn try_block(first: Run, all: &mut [u32], samples: &mut [u32], block: &[u8]) -> 
     run
 }
 
-fn next_block(fd: i32, run: Run, all: &mut [u32], samples: &mut [u32]) -> Step {
-    let mut buf = io::large_buffer();
-    let n = io::read_full(fd, &mut buf);
+fn next_block(from: &File, run: Run, all: &mut [u32], samples: &mut [u32]) -> Step {
+    let mut buf = rooms::large();
+    let n = rooms::fill(Some(from), &mut buf);
     let next = try_block(run, all, samples, &buf[..n]);
     Step {
         run: next,
@@ -235,16 +240,16 @@ fn next_block(fd: i32, run: Run, all: &mut [u32], samples: &mut [u32]) -> Step {
 }
 
 // A file of at most 64 blocks.
-fn try_blocks(fd: i32, all: &mut [u32], samples: &mut [u32]) -> Tally {
+fn try_blocks(from: &File, out: Stdout, all: &mut [u32], samples: &mut [u32]) -> Tally {
     let mut run = Run {
         ring: Ring { accepted: 0 },
         capacity: 0,
-        tally: Tally::new(),
+        tally: Tally::new(out),
     };
     let mut left: u32 = 64;
     while 0 < left {
         left = left - 1;
-        let step = next_block(fd, run, &mut *all, &mut *samples);
+        let step = next_block(from, run, &mut *all, &mut *samples);
         let next = step.run;
         run = next;
         if !step.more {
@@ -254,19 +259,15 @@ fn try_blocks(fd: i32, all: &mut [u32], samples: &mut [u32]) -> Tally {
     run.tally
 }
 
-fn try_file(fd: i32) -> Tally {
+fn try_file(from: &File, out: Stdout) -> Tally {
     let mut all = patterns4096();
     let mut samples = patterns16384();
-    try_blocks(fd, &mut all, &mut samples)
+    try_blocks(from, out, &mut all, &mut samples)
 }
 
-fn main() {
-    let fd = os::open_read(b"calls");
-    if fd < 0 {
-        os::fail(b"calls");
-        return;
+fn main(rt: HostRuntime) {
+    if let Some(calls) = vectors::files::open(rt, b"calls") {
+        let tally = try_file(&calls, rt.stdout());
+        tally.report_main(b"calls", b"queries");
     }
-    let tally = try_file(fd);
-    tally.report_main(b"calls", b"queries");
-    libc::close(fd);
 }

@@ -1,21 +1,25 @@
 // Replays stored calls of the coarse scan against the answers of the unchanged Rust, and writes how many were tried and how many differ.
 // tests/scan/README.md says how the files were made and what a record holds.
+#![tactic(auto)]
+
 mod calls; // the calls of the scan
 
 use scan::Scan;
 use scan_vectors::buffers::Buffers;
 use scan_vectors::records::Record;
 use scan_vectors::{buffers, compare, records, whole};
+use std::fs::File;
+use std::io::Stdout;
 use vectors::Tally;
 
-#[derive(Drop)]
+#[derive(Clone, Copy)]
 struct Run {
     scan: Scan,
     buffers: Buffers,
     tally: Tally,
 }
 
-fn try_call(full: i32, run: Run, record: &Record) -> Run {
+fn try_call(full: Option<&File>, run: Run, record: &Record) -> Run {
     let before = run.scan;
     let lent = run.buffers;
     let tally = run.tally;
@@ -32,11 +36,11 @@ fn try_call(full: i32, run: Run, record: &Record) -> Run {
 }
 
 // A file of at most 65,535 calls.
-fn try_calls(calls: i32, full: i32, record: &mut Record) -> Tally {
+fn try_calls(calls: Option<&File>, full: Option<&File>, out: Stdout, record: &mut Record) -> Tally {
     let mut run = Run {
         scan: scan_calls::parts::new_scan(8000, 1),
         buffers: buffers::all_blank(),
-        tally: Tally::new(),
+        tally: Tally::new(out),
     };
     let mut turns = vectors::files::next(calls, &mut *record, 65536);
     while 0 < turns {
@@ -46,16 +50,14 @@ fn try_calls(calls: i32, full: i32, record: &mut Record) -> Tally {
     run.tally
 }
 
-fn try_files(calls: i32, full: i32) -> Tally {
+fn try_files(calls: Option<&File>, full: Option<&File>, out: Stdout) -> Tally {
     let mut record = [0u8; 168];
-    try_calls(calls, full, &mut record)
+    try_calls(calls, full, out, &mut record)
 }
 
-fn main() {
-    let calls = vectors::files::open(b"calls");
-    let full = vectors::files::open(b"full");
-    let tally = try_files(calls, full);
+fn main(rt: HostRuntime) {
+    let calls = vectors::files::open(rt, b"calls");
+    let full = vectors::files::open(rt, b"full");
+    let tally = try_files(calls.as_ref(), full.as_ref(), rt.stdout());
     tally.report_main(b"calls", b"scored frames");
-    libc::close(full);
-    libc::close(calls);
 }

@@ -14,7 +14,7 @@ pub type Lags = [f64; 4249];
 // Long enough for the largest scan, of 1,062 bins a second and ceiling 4,000; a smaller one is lent a part of each.
 // They go from call to call by value: a function that lends seven slices on takes seconds to check. The fields that the scoring lends last stand
 // first, where the search for their lengths finds them.
-#[derive(Drop)]
+#[derive(Clone, Copy)]
 pub struct Buffers {
     pub sums: Lags,
     pub scores: Lags,
@@ -44,7 +44,7 @@ pub fn all_blank() -> Buffers {
 }
 
 // How much of each buffer a scan is lent.
-#[derive(Drop)]
+#[derive(Clone, Copy)]
 pub struct Lengths {
     pub envelope: u64,
     pub frame: u64,

@@ -68,7 +68,7 @@ fn level(report: LevelReport) -> u64 {
 }
 
 // The region as a record has it: its flag, its delay and its correlation.
-#[derive(Drop)]
+#[derive(Clone, Copy)]
 struct Told {
     flag: u64,
     delay: u64,

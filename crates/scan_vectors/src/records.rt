@@ -6,7 +6,7 @@ use vectors::signals::Signal;
 pub type Record = [u8; 168];
 
 // What a call is given.
-#[derive(Drop)]
+#[derive(Clone, Copy)]
 pub struct Call {
     pub kind: u64,
     pub count: u32,
@@ -34,7 +34,7 @@ pub fn kind_of(record: &Record) -> u64 {
 }
 
 // The scan and its buffers after a call, and the answer as a record has it.
-#[derive(Drop)]
+#[derive(Clone, Copy)]
 pub struct Done {
     pub scan: Scan,
     pub buffers: Buffers,

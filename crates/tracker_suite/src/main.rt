@@ -1,27 +1,32 @@
 // Replays stored calls of the tracker against the answers of the unchanged Rust, and writes how many were tried and how many differ.
 // tests/tracker/README.md says how the files were made and what a record holds.
+#![tactic(auto)]
+
 ghost use Rattle.std.specs.Prelude.{◌+◌, ◌≤◌, length};
 
 use answers::{Change, Count, Flag};
+use pipes::rooms;
+use std::fs::File;
+use std::io::Stdout;
 use tracker::{Bands, Cycled, Delay, Outcome, Tracker, Trigger, Verdict};
 use units::Samples;
 use vectors::Tally;
 
-#[derive(Drop)]
+#[derive(Clone, Copy)]
 struct Run {
     tracker: Tracker,
     tally: Tally,
 }
 
 // A run, and whether the file may have more.
-#[derive(Drop)]
+#[derive(Clone, Copy)]
 struct Step {
     run: Run,
     more: bool,
 }
 
 // A verdict as a record has it: 0 where there is none, 1 hold, 2 move, 3 reacquire; the trigger from 1; where a move goes.
-#[derive(Drop)]
+#[derive(Clone, Copy)]
 struct Told {
     verdict: u64,
     trigger: u64,
@@ -279,9 +284,9 @@ fn try_block(first: Run, block: &[u8]) -> Run {
     run
 }
 
-fn next_block(fd: i32, run: Run) -> Step {
-    let mut buf = io::large_buffer();
-    let n = io::read_full(fd, &mut buf);
+fn next_block(from: &File, run: Run) -> Step {
+    let mut buf = rooms::large();
+    let n = rooms::fill(Some(from), &mut buf);
     let next = try_block(run, &buf[..n]);
     Step {
         run: next,
@@ -290,17 +295,17 @@ fn next_block(fd: i32, run: Run) -> Step {
 }
 
 // A file of at most 64 blocks.
-fn try_blocks(fd: i32) -> Tally {
+fn try_blocks(from: &File, out: Stdout) -> Tally {
     let made = Tracker::new(8000);
     let tracker = made.tracker;
     let mut run = Run {
         tracker,
-        tally: Tally::new(),
+        tally: Tally::new(out),
     };
     let mut left: u32 = 64;
     while 0 < left {
         left = left - 1;
-        let step = next_block(fd, run);
+        let step = next_block(from, run);
         let next = step.run;
         run = next;
         if !step.more {
@@ -337,8 +342,8 @@ fn try_rate(tally: Tally, bytes: &[u8], at: usize) -> Tally
     tally.saw(true, same_bands(bands, bytes, at))
 }
 
-fn try_rates(block: &[u8]) -> Tally {
-    let mut tally = Tally::new();
+fn try_rates(out: Stdout, block: &[u8]) -> Tally {
+    let mut tally = Tally::new(out);
     let mut left = block.len() / 24;
     let mut at = 0;
     while 0 < left {
@@ -350,31 +355,19 @@ fn try_rates(block: &[u8]) -> Tally {
 }
 
 // A file of one block.
-fn try_bands(fd: i32) -> Tally {
-    let mut buf = io::large_buffer();
-    let n = io::read_full(fd, &mut buf);
-    try_rates(&buf[..n])
+fn try_bands(from: &File, out: Stdout) -> Tally {
+    let mut buf = rooms::large();
+    let n = rooms::fill(Some(from), &mut buf);
+    try_rates(out, &buf[..n])
 }
 
-fn open(path: &[u8]) -> i32 {
-    let fd = os::open_read(path);
-    if fd < 0 {
-        os::fail(path);
-    }
-    fd
-}
-
-fn main() {
-    let bands = open(b"bands");
-    if 0 <= bands {
-        let tally = try_bands(bands);
+fn main(rt: HostRuntime) {
+    if let Some(bands) = vectors::files::open(rt, b"bands") {
+        let tally = try_bands(&bands, rt.stdout());
         tally.report(b"bands of rates");
-        libc::close(bands);
     }
-    let cycles = open(b"cycles");
-    if 0 <= cycles {
-        let tally = try_blocks(cycles);
+    if let Some(cycles) = vectors::files::open(rt, b"cycles") {
+        let tally = try_blocks(&cycles, rt.stdout());
         tally.report_main(b"calls", b"cycles");
-        libc::close(cycles);
     }
 }

@@ -2,6 +2,8 @@
 ghost use Rattle.std.specs.Prelude.{◌≤◌};
 
 use crate::patterns;
+use pipes::rooms;
+use std::fs::File;
 
 // n, or `most` where n is larger.
 pub fn at_most(n: u64, most: usize) -> usize
@@ -36,16 +38,16 @@ pub fn store32(out: &mut [f32], place: u32, bits: u64) {
 }
 
 // The next entries of a file, each an f32 in four bytes.
-pub fn read32(fd: i32, out: &mut [f32]) {
+pub fn read32(from: Option<&File>, out: &mut [f32]) {
     let mut i = 0;
     while i < out.len() {
-        out[i] = next32(fd);
+        out[i] = next32(from);
         i += 1;
     }
 }
 
-fn next32(fd: i32) -> f32 {
+fn next32(from: Option<&File>) -> f32 {
     let mut bytes = [0u8; 4];
-    io::read_full(fd, &mut bytes);
+    rooms::fill(from, &mut bytes);
     floats::bits::float32(crate::number32(&bytes, 0))
 }

@@ -1,24 +1,29 @@
 // The files of a suite: records of one length, one after the other, and rows of numbers in a record.
 ghost use Rattle.std.specs.Prelude.{◌-◌, ◌≤◌};
 
+use pipes::{named, rooms};
+use std::fs::{File, OpenOptions};
+
 // A file to read. One that cannot be opened is named on standard error, and has no record.
-pub fn open(path: &[u8]) -> i32 {
-    let fd = os::open_read(path);
-    if fd < 0 {
-        os::fail(path);
+pub fn open(rt: HostRuntime, path: &[u8]) -> Option<File> {
+    match named::opened(rt, OpenOptions::new().read(true), path) {
+        Ok(found) => Some(found),
+        Err(why) => {
+            named::tell(rt.stderr(), path, why);
+            None
+        }
     }
-    fd
 }
 
 // A record, as long as the slice, is read into it, and a turn is over: the answer is the turns left. It is 0 where the file has no whole record more,
 // or this was the last turn; then there is no record to look at. A loop over a file starts with the most turns that it may take.
-pub fn next(fd: i32, record: &mut [u8], turns: u32) -> u32
+pub fn next(from: Option<&File>, record: &mut [u8], turns: u32) -> u32
     ensures { result ≤ turns - 1 }
 {
     if turns == 0 {
         return 0;
     }
-    if io::read_full(fd, &mut *record) < record.len() {
+    if rooms::fill(from, &mut *record) < record.len() {
         return 0;
     }
     turns - 1

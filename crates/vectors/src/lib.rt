@@ -1,4 +1,6 @@
 // What the programs that replay stored vectors share: little-endian numbers, made-up samples, patterns of floats, and the tally that they write.
+#![tactic(auto)]
+
 pub mod buffers; // parts of buffers, and entries that records write
 pub mod files; // the records of a file
 pub mod patterns; // floats and their bits, and the hash of a buffer
@@ -6,11 +8,13 @@ pub mod signals; // the samples of stored calls
 
 ghost use Rattle.std.specs.Prelude.{◌+◌, ◌≤◌, length};
 
-use libc::STDOUT_FILENO;
+use pipes::told;
+use std::io::Stdout;
 
-// Calls tried so far, those of them that the program is about, and those whose answer is another than the one stored.
-#[derive(Drop)]
+// Calls tried so far, those of them that the program is about, and those whose answer is another than the one stored. `out`: where it is written.
+#[derive(Clone, Copy)]
 pub struct Tally {
+    pub out: Stdout,
     pub calls: u64,
     pub main: u64,
     pub different: u64,
@@ -41,8 +45,9 @@ pub fn number32(bytes: &[u8], at: usize) -> u32
 }
 
 impl Tally {
-    pub fn new() -> Tally {
+    pub fn new(out: Stdout) -> Tally {
         Tally {
+            out,
             calls: 0,
             main: 0,
             different: 0,
@@ -60,24 +65,24 @@ impl Tally {
             return next;
         }
         if self.different < 5 {
-            io::write_all(STDOUT_FILENO, b"  differs: call ");
-            io::print_decimal(STDOUT_FILENO, self.calls);
-            io::write_all(STDOUT_FILENO, b"\n");
+            told::put(self.out, b"  differs: call ");
+            told::put_number(self.out, self.calls);
+            told::put(self.out, b"\n");
         }
         next.different = answers::next_long_count(self.different);
         next
     }
 
     fn tried(self, what: &[u8]) {
-        io::write_all(STDOUT_FILENO, what);
-        io::write_all(STDOUT_FILENO, b": ");
-        io::print_decimal(STDOUT_FILENO, self.calls);
-        io::write_all(STDOUT_FILENO, b" tried, ");
+        told::put(self.out, what);
+        told::put(self.out, b": ");
+        told::put_number(self.out, self.calls);
+        told::put(self.out, b" tried, ");
     }
 
     fn differed(self) {
-        io::print_decimal(STDOUT_FILENO, self.different);
-        io::write_all(STDOUT_FILENO, b" different\n");
+        told::put_number(self.out, self.different);
+        told::put(self.out, b" different\n");
     }
 
     // A line of how many were tried and how many differ.
@@ -89,10 +94,10 @@ impl Tally {
     // The same with the number of those that the program is about.
     pub fn report_main(self, what: &[u8], main: &[u8]) {
         self.tried(what);
-        io::print_decimal(STDOUT_FILENO, self.main);
-        io::write_all(STDOUT_FILENO, b" of them ");
-        io::write_all(STDOUT_FILENO, main);
-        io::write_all(STDOUT_FILENO, b", ");
+        told::put_number(self.out, self.main);
+        told::put(self.out, b" of them ");
+        told::put(self.out, main);
+        told::put(self.out, b", ");
         self.differed();
     }
 }

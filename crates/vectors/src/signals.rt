@@ -2,7 +2,7 @@
 ghost use Rattle.std.specs.Prelude.{◌+◌, ◌≤◌, length};
 
 // What a record says of its samples.
-#[derive(Drop)]
+#[derive(Clone, Copy)]
 pub struct Signal {
     seed: u32,
     mask: u32,
@@ -75,7 +75,7 @@ impl Signal {
     pub fn fill(self, out: &mut [f32], place: u64) {
         let mut i = 0;
         while i < out.len() {
-            out[i] = self.at(std::num::wrapping_add_u64(place, i as u64));
+            out[i] = self.at(place.wrapping_add(i as u64));
             i += 1;
         }
     }

@@ -1,0 +1,20 @@
+-- `parts_walks::judge::all` meets its contract. No turn changes the length of a lent list.
+use mathlib.Core.Path.{refl, ◌∙◌}
+use Rattle.parts_walks.proofs.Judging.{begun, goes_on}
+use Rattle.parts_walks.proofs.judge.all.Goals as goal
+
+pub loop-turns-init : goal.loop-turns-init
+loop-turns-init c =
+    (c.requires.0, refl, c.requires.1, begun _ _)
+
+pub returns-then-not-goes_on : goal.returns-then-not-goes_on
+returns-then-not-goes_on c = (c.loop-turns.invariant.0, c.loop-turns.invariant.3)
+
+pub loop-turns-preserved : goal.loop-turns-preserved
+loop-turns-preserved c =
+    let turn = c.turn-stand in
+    let loop = c.loop-turns in
+    (turn.ensures.0, turn.auto.room ∙ loop.invariant.1, turn.auto.room ∙ loop.invariant.2, goes_on loop.invariant.3 turn.ensures.1)
+
+pub returns : goal.returns
+returns c = (c.loop-turns.invariant.0, c.loop-turns.invariant.3)

@@ -1,0 +1,11 @@
+-- `ring_suite::try_block` is safe and ends.
+use Prim.Native.Nat.{◌+◌, ◌*◌, ◌≤◌}
+use mathlib.Core.Path.{◌≡◌}
+use lib.ListN.{length}
+use Rattle.ring_suite.proofs.try_block.Given as goal
+
+abbrev pub invariant-loop-left : goal.invariant-loop-left
+invariant-loop-left l = (l.at + l.left * 32 ≤ length l.block) × (length l.all ≡ length l.initial.all) × (length l.samples ≡ length l.initial.samples)
+
+abbrev pub decreases-loop-left : goal.decreases-loop-left
+decreases-loop-left l = l.left
