@@ -2,6 +2,7 @@
 # make host        target/examples/host of examples/host: two sound files in, the story of their echo out. It needs FFTW in single precision and libsndfile (Debian: libfftw3-dev, libsndfile1-dev).
 # make install     headers, pkg-config file and the archive for PROCESSOR (default: this machine's) below PREFIX (default /usr/local)
 # make dist        target/dist/trimolaveg-VERSION.tar.gz: programs, archives, headers, examples, papers and licence. It needs no prover; `make install` works in it too.
+SHELL := bash
 PREFIX ?= /usr/local
 PROCESSOR ?= $(shell uname -m)
 version := $(shell tools/version)
@@ -12,7 +13,7 @@ programs := replay parts check convert record
 # In a tree that came from a dist file there are archives and no crates.
 ifneq ($(wildcard crates),)
 folder := target/archive
-proved_from := crates.txt KIT tools/archive tools/modules $(shell find crates -path '*_suite' -prune -o -type f -print)
+proved_from := crates.txt KIT tools/archive tools/modules tools/kit.py $(shell find crates \( -path '*_suite' -o -name out \) -prune -o -type f -print)
 else
 folder := lib
 endif
@@ -35,8 +36,7 @@ install: $(archive)
 
 ifneq ($(wildcard crates),)
 target/bin/%_main: $(proved_from)
-	rm -f target/stamp/$*_main
-	rt check $*_main
+	home=. tool=make; . tools/front; front_fresh $*_main || front_build $*_main
 	touch $@
 
 # The proofs are what takes time: the archives of all processors come of one run.

@@ -5,7 +5,7 @@ import sys
 
 HOME = pathlib.Path(__file__).resolve().parent.parent
 DECLARED = re.compile(r"^(?:abbrev |unfoldable )?pub (?:data |record )?([^\s:(]+)", re.M)
-CITED = re.compile(r"Rattle·(\w+)")
+CITED = re.compile(r"Rattle\.(\w+)\.(?:specs|proofs)\b")
 
 
 def definitions(crate):
@@ -18,7 +18,7 @@ def definitions(crate):
 
 def cited(crate):
     """Names the crates that a crate's pages and code cite."""
-    pages = [p for p in crate.rglob("*") if p.suffix in (".antt", ".rt")]
+    pages = [p for part in ("src", "specs", "proofs") for p in (crate / part).rglob("*") if p.suffix in (".antt", ".rt")]
     return {name for page in pages for name in CITED.findall(page.read_text())} - {crate.name}
 
 

@@ -37,7 +37,7 @@ INNER = {
 def names_of(crate):
     """Every name that a crate declares: definitions, theorems, fields and cases, functions, types and constants, its pages, and its wrong programs."""
     found = {path.stem for path in wrong_programs(crate)}
-    for path in (CRATES / crate).rglob("*"):
+    for path in (path for part in ("src", "specs", "proofs") for path in (CRATES / crate / part).rglob("*")):
         if path.suffix == ".antt":
             found.add(path.stem)
             found.update(re.findall(r"^ *(?:(?:pub|abbrev|unfoldable|record|data) +)*(?:record |data )?([^\s(){}:=]+)(?: +:| +\(.*\) :)", path.read_text(), re.M))
@@ -61,7 +61,7 @@ def declares(text, name):
 
 def known_crates():
     lines = (ROOT / "crates.txt").read_text().splitlines()
-    return {line.split(":")[0] for line in lines if line and not line.startswith("#")}
+    return {line.split(":")[0].split()[0] for line in lines if line and not line.startswith("#")}
 
 
 def named(text, crates):
@@ -93,7 +93,7 @@ def missing_names(text, crates):
         if "/" in where:
             if not (ROOT / where).exists() or not declares((ROOT / where).read_text(), name):
                 yield f"PROMISES.md:{number}: {where} does not declare `{name}`"
-        elif name not in names[where] and name.replace("_", "-") not in names[where]:
+        elif name not in names[where]:
             yield f"PROMISES.md:{number}: `{name}` is not in crate {where}"
 
 
@@ -108,11 +108,14 @@ def where(text, crates):
         "| Crate | Name | File |",
         "|---|---|---|",
     ]
-    sources = {crate: [p for kind in ("specs", "src", "proofs") for p in sorted((CRATES / crate / kind).rglob("*")) if p.suffix in (".rt", ".antt") and p.stem != "Proof"] for crate in crates}
+    sources = {crate: [p for kind in ("specs", "src", "proofs") for p in sorted((CRATES / crate / kind).rglob("*")) if p.suffix in (".rt", ".antt") and p.stem not in ("Proof", "Answers", "Invariants")] for crate in crates}
     texts = {path: path.read_text() for paths in sources.values() for path in paths}
     for crate, name in sorted({(c, n) for _, c, n in named(text, crates) if "/" not in c}):
-        files = [p for p in sources[crate] if declares(texts[p], name) or declares(texts[p], name.replace("_", "-"))]
-        lines += [f"| {crate} | `{name}` | [{p.relative_to(CRATES / crate)}](../{p.relative_to(ROOT)}) |" for p in files[:1]]
+        files = [p for p in sources[crate] if declares(texts[p], name)]
+        # a definition and the function that it defines have one name: the first file of each sort, or else of the proofs
+        first = {p.relative_to(CRATES / crate).parts[0]: p for p in reversed(files)}
+        kinds = [kind for kind in ("specs", "src") if kind in first] or list(first)
+        lines += [f"| {crate} | `{name}` | [{first[kind].relative_to(CRATES / crate)}](../{first[kind].relative_to(ROOT)}) |" for kind in kinds]
     return "\n".join(lines) + "\n"
 
 
@@ -133,17 +136,17 @@ def plain(crate, call):
     """A call's name in its theorems: for the C face without the prefix that all calls of its crate have."""
     prefix = "tmv_" + crate.removesuffix("_face") + "_"
     shared = all(other.startswith(prefix) for other, _ in public_calls(crate))
-    return call.removeprefix(prefix if shared else "tmv_").replace("_", "-")
+    return call.removeprefix(prefix if shared else "tmv_")
 
 
 def theorems(crate, call):
     """The theorems about a call, in Determined. A theorem is about the call with the longest name that begins it."""
     file = CRATES / crate / "proofs" / "Determined.antt"
-    known = re.findall(r"^pub ([\w-]+-once) :", file.read_text(), re.M) if file.exists() else []
+    known = re.findall(r"^pub (\w+_once) :", file.read_text(), re.M) if file.exists() else []
     names = [plain(crate, other) for other, _ in public_calls(crate)]
-    longest = {t: max((name for name in names if t.startswith(name + "-")), key=len, default="") for t in known}
+    longest = {t: max((name for name in names if t.startswith(name + "_")), key=len, default="") for t in known}
     mine = [t for t in known if longest[t] == plain(crate, call)]
-    return mine if plain(crate, call) + "-once" in mine else []
+    return mine if plain(crate, call) + "_once" in mine else []
 
 
 def determined(crates):

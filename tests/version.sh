@@ -9,7 +9,7 @@ said() { # a file, and how the version stands in it
 }
 said include/trimolaveg.h "#define TMV_VERSION_MAJOR $major#define TMV_VERSION_MINOR $minor#define TMV_VERSION_PATCH $patch#"
 said crates/version_face/src/lib.rt "MAJOR: u32 = $major;const MINOR: u32 = $minor;const PATCH: u32 = $patch;"
-said crates/version_face/specs/Version.antt "thisVersion = versionNumber $major $minor $patch"
+said crates/version_face/specs/Version.antt "this_version = version_number $major $minor $patch"
 said bindings/rust/Cargo.toml "version = \"$version\""
 for program in replay parts check convert record show draw; do
   [ "$("./$program" --version)" = "trimolaveg $version" ] || { echo "version: ./$program --version says something else than $version" >&2; exit 1; }

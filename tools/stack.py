@@ -25,7 +25,7 @@ def frames(folder):
 def calls(folder):
     """Of each function, those that it calls."""
     found = {}
-    for path in folder.glob("*_face.ll"):
+    for path in (path for path in folder.glob("*.ll") if not path.name.endswith(".in.ll")):
         for name, body in re.findall(r'^define [^\n]*?@("[^"]+"|[\w.]+)\([^\n]*\{\n(.*?)^\}', path.read_text(), flags=re.M | re.S):
             found[name.strip('"')] = {callee.strip('"') for callee in re.findall(r'\bcall [^\n]*?@("[^"]+"|[\w.]+)\(', body)}
     return found

@@ -15,7 +15,7 @@ int main(void)
 {
     printf("# The work of one frame\n\nWritten by `tools/work --write` and held by tests/work.sh.\n\n");
     printf("A scored frame tells how many products it formed in its lag sums (SPECIFICATION 7): the frame's bins, times the lags whose segment energy is above 1e-12. It is 0 after steps 1 to 4, and never\n"
-           "more than lags times bins, which is the last column (theorem `products-at-most`). A frame is about 256 ms of near samples, so that no more than four are scored in a second, and none once the\n"
+           "more than lags times bins, which is the last column (theorem `products_at_most`). A frame is about 256 ms of near samples, so that no more than four are scored in a second, and none once the\n"
            "scan has finished. What else a frame takes grows with its window, bins plus lags, and not with their product. Times are in [PERFORMANCE](PERFORMANCE.md).\n\n");
     printf("| Rate in Hz | Ceiling in ms | Lags | Bins in a frame | Products at most |\n|---|---|---|---|---|\n");
     for (size_t i = 0; i < sizeof rates / sizeof *rates; i++)

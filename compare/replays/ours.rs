@@ -2,6 +2,7 @@
 
 use crate::inputs::Inputs;
 use std::cell::RefCell;
+use std::sync::atomic::{AtomicI32, Ordering};
 
 extern "C" {
     fn replay_main() -> i32;
@@ -50,29 +51,43 @@ extern "C" fn replay_isatty(_fd: i32) -> i32 {
     0
 }
 
+/// (The third word, a mode, stands where a file is made.)
 #[no_mangle]
-extern "C" fn rattle_open_to_read(path: *const i8) -> i32 {
+extern "C" fn replay_open(path: *const i8, _flags: i32) -> i32 {
     let path = unsafe { std::ffi::CStr::from_ptr(path.cast()) };
     let place = WORDS[1..].iter().position(|word| *word == path.to_bytes());
     FIRST + place.expect("one of the three files") as i32
 }
 
 #[no_mangle]
-extern "C" fn rattle_arg_count() -> usize {
-    WORDS.len()
+extern "C" fn replay_close(_fd: i32) -> i32 {
+    0
 }
 
+/// What this process does with signals stays as it is.
 #[no_mangle]
-extern "C" fn rattle_arg(at: usize, into: *mut u8, len: usize) -> isize {
-    let into = unsafe { std::slice::from_raw_parts_mut(into, len) };
-    into[..WORDS[at].len()].copy_from_slice(WORDS[at]);
-    WORDS[at].len() as isize
-}
-
-#[no_mangle]
-extern "C" fn rattle_errno() -> i32 {
+extern "C" fn replay_signal(_signal: i32, _does: usize) -> usize {
     0
 }
 
 #[no_mangle]
-extern "C" fn rattle_set_errno(_error: i32) {}
+extern "C" fn rattle_arg(at: usize, into: *mut u8, len: usize) -> isize {
+    let Some(word) = WORDS.get(at) else { return -1 };
+    let into = unsafe { if len == 0 { &mut [][..] } else { std::slice::from_raw_parts_mut(into, len) } };
+    let fits = word.len().min(len);
+    into[..fits].copy_from_slice(&word[..fits]);
+    if fits == word.len() { fits as isize } else { -2 }
+}
+
+/// The program says by this number why a call failed, and asks for it afterwards.
+static ERROR: AtomicI32 = AtomicI32::new(0);
+
+#[no_mangle]
+extern "C" fn rattle_errno() -> i32 {
+    ERROR.load(Ordering::Relaxed)
+}
+
+#[no_mangle]
+extern "C" fn rattle_set_errno(error: i32) {
+    ERROR.store(error, Ordering::Relaxed);
+}

@@ -21,8 +21,10 @@ def entry(i):
 def main():
     print('// The first guesses of the whole root, one for each 1,024th of the numbers from 2^52 to 2^54, in units of 2^11. Written by tests/floats/guesses.py.')
     print('pub const GUESSES: [u16; %d] = [' % ENTRIES)
-    for i in range(ENTRIES):
-        print('    %d,' % entry(i))
+    # as rt fmt lays it out, thirteen to a line
+    words = ['%d,' % entry(i) for i in range(ENTRIES)]
+    for i in range(0, ENTRIES, 13):
+        print('    ' + ' '.join(words[i:i + 13]))
     print('];')
 
 

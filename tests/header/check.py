@@ -6,6 +6,8 @@ import sys
 
 HEADER = pathlib.Path("include/trimolaveg.h")
 FACE = [f"crates/{part}_face/src" for part in ("version", "floats", "ring", "scan", "scan_handover", "scan_panel", "scan_panel_reports", "scan_pair", "tracker", "fine", "fine_handover", "ring_window")]
+# A static library exports its own functions alone: where other crates stand on a part's crate, the thin crate NAME_c has its calls, with the same clauses.
+THIN = ["scan_face", "scan_handover_face", "scan_panel_face"]
 # Where an answer's case gets its number.
 NUMBERING = [*FACE, "crates/ring_words/src", "crates/scan_words/src", "crates/tracker_words/src", "crates/fine_words/src"]
 # A part may have a refusal of its own.
@@ -45,12 +47,23 @@ def c_parameters(parameter):
 def face_functions():
     text = without_comments(all_sources(FACE), r"//[^\n]*")
     found = {}
-    declared = r'#\[no_mangle\]\s*pub extern "C" fn (\w+)\((.*?)\)(?:\s*->\s*(\w+))?'
+    declared = r'#\[unsafe\(no_mangle\)\]\s*pub extern "C" fn (\w+)\((.*?)\)(?:\s*->\s*(\w+))?'
     for name, parameters, answer in re.findall(declared, text, flags=re.S):
         listed = [part for part in (p.strip() for p in parameters.split(",")) if part]
         in_c = [c for part in listed for c in c_parameters(part)]
         found[name] = f"{C_TYPES[answer]} {name}({', '.join(in_c) or 'void'})"
     return found
+
+
+def calls(crate):
+    """Each exported call of a crate, from its name to its body."""
+    text = without_comments(sources(f"crates/{crate}/src"), r"//[^\n]*")
+    return dict(re.findall(r'#\[unsafe\(no_mangle\)\]\s*pub extern "C" fn (\w+)(.*?)\n\{', text, flags=re.S))
+
+
+def exported():
+    """The parts that crates.txt lists as static libraries."""
+    return set(re.findall(r"^(\w+) staticlib:", pathlib.Path("crates.txt").read_text(), flags=re.M))
 
 
 def header_functions(text):
@@ -86,6 +99,10 @@ def main():
         for name in ours.keys() & theirs.keys()
         if ours[name] != theirs[name]
     ]
+
+    wrong += [f"{crate}_c does not have the calls of {crate} with their clauses" for crate in THIN if calls(crate) != calls(f"{crate}_c")]
+    parts = {pathlib.Path(folder).parent.name for folder in FACE}
+    wrong += [f"crates.txt does not list {part} as a static library" for part in {part + "_c" * (part in THIN) for part in parts} - exported()]
 
     named = constants(header)
     face = all_sources(FACE)

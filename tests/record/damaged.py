@@ -66,7 +66,7 @@ def wrong(data: bytes, room: pathlib.Path, command: list, dice: random.Random) -
         answer = f"{answer.channels} channels, and no channel {asked}"
     names = [file, file, asked, asked, 500, 0, folder, folder / "far", folder / "near", folder / "events"]
     run = subprocess.run([*command, *map(str, names)], capture_output=True)
-    if run.returncode or run.stdout:
+    if run.returncode != (1 if isinstance(answer, str) else 0) or run.stdout:
         return f"it ended with {run.returncode}"
     if isinstance(answer, str):
         said = run.stderr.decode(errors="replace")
