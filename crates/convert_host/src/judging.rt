@@ -5,7 +5,7 @@ ghost use Rattle.convert_side.specs.Side.{Fits};
 use convert_side::Side;
 use pipes::reason::Reason;
 use pipes::rooms;
-use recording::{Admission, Header, Lengths, Start, Used};
+use recording::{Header, Lengths, Used};
 use recording_convert::Direction;
 use std::fs::File;
 
@@ -64,7 +64,7 @@ fn judged(j: Judging, side: Side, used: Used) -> Judging
 }
 
 // The entry at hand, or that it is not there.
-fn admission(header: Header, lengths: Lengths, used: Used, side: Side, room: &[u8]) -> Admission
+fn admission(header: Header, lengths: Lengths, used: Used, side: Side, room: &[u8]) -> Option<Used>
     requires { (Fits side) × (length room.now ≡ 65536) }
 {
     let input = side.input;
@@ -80,8 +80,8 @@ fn turn(header: Header, lengths: Lengths, j: Judging, events: &File, room: &mut 
 {
     let side = convert_side::fill(j.side, 16, Some(events), room);
     match admission(header, lengths, j.used, side, room) {
-        Admission::Lacking => lacking(j, side),
-        Admission::Enough(used) => judged(j, convert_side::past(side, 16), used),
+        None => lacking(j, side),
+        Some(used) => judged(j, convert_side::past(side, 16), used),
     }
 }
 
@@ -147,8 +147,8 @@ fn judge_in(direction: Direction, events: &File, lengths: Lengths, room: &mut [u
         return Judgement::Unread(head.reason);
     }
     match recording_head::opened(head, room) {
-        Start::BadHeader => Judgement::BadHeader,
-        Start::Opened(header) => judge_events(direction, header, lengths, events, room),
+        None => Judgement::BadHeader,
+        Some(header) => judge_events(direction, header, lengths, events, room),
     }
 }
 

@@ -5,7 +5,7 @@ ghost use Rattle.convert_host.specs.Work.{AllFit, Rooms};
 
 use convert_side::{Ends, Side, Stored};
 use pipes::{named, rooms};
-use recording::{Admission, Entry, Event, Form, Header, Lengths, Used};
+use recording::{Event, Form, Header, Lengths, Used};
 use recording_convert::Direction;
 use recording_store::Storing;
 use std::fs::File;
@@ -95,7 +95,7 @@ fn entered(work: Work, events: Side, far: Side, near: Side, used: Used) -> Work
     }
 }
 
-fn entry_at(side: Side, room: &[u8]) -> Entry
+fn entry_at(side: Side, room: &[u8]) -> Option<Event>
     requires { (Fits side) × (length room.now ≡ 65536) }
 {
     let input = side.input;
@@ -277,7 +277,7 @@ fn admitted_turn(
     header: Header,
     work: Work,
     event: Event,
-    admission: Admission,
+    admission: Option<Used>,
     sides: &Sides<'_>,
     er: &[u8],
     eo: &mut [u8],
@@ -291,8 +291,8 @@ fn admitted_turn(
 {
     let form = header.form;
     match admission {
-        Admission::Lacking => stopped(work, State::Changed),
-        Admission::Enough(used) => event_turn(
+        None => stopped(work, State::Changed),
+        Some(used) => event_turn(
             direction,
             form,
             work,
@@ -342,8 +342,8 @@ fn turn(
 {
     let work = ready(before, &sides.events, er, eo);
     match entry_at(work.events, er) {
-        Entry::Bad => stopped(work, State::Changed),
-        Entry::Good(event) => admitted_turn(
+        None => stopped(work, State::Changed),
+        Some(event) => admitted_turn(
             direction,
             header,
             work,

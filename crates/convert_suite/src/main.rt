@@ -4,7 +4,6 @@
 
 use pipes::told;
 use recording_convert::Direction;
-use recording_shorts::Short;
 use recording_store::Storing;
 use std::io::Stdout;
 use vectors::Tally;
@@ -79,8 +78,8 @@ fn try_pattern(bits: u32, t: Tally) -> Tally {
         (bits / 16777216) as u8,
     ];
     match recording_shorts::number(bits) {
-        Short::Number(n) => t.saw(true, pattern_of(n) == bits && comes_back(&bytes, n)),
-        Short::None => t.saw(false, is_refused(&bytes)),
+        Some(n) => t.saw(true, pattern_of(n) == bits && comes_back(&bytes, n)),
+        None => t.saw(false, is_refused(&bytes)),
     }
 }
 

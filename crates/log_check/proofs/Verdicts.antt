@@ -1,4 +1,5 @@
 -- Any host's verdict is `checked`.
+use Rattle.std.specs.Prelude.{Some}
 use Prim.Native.Nat.{ℕ, ◌+◌}
 use mathlib.Core.Path.{◌≡◌, refl, sym, ap, subst, ◌∙◌}
 use mathlib.Core.Bool.{Bool, true, false}
@@ -15,7 +16,6 @@ use Rattle.log_hold.specs.Held.{held}
 use Rattle.log_hold.specs.declared.Due.TheVariants as due
 use Rattle.log_hold.specs.declared.Stands.TheVariants.{Right, Wrong, Over}
 use Rattle.recording.specs.declared.Header.{Header}
-use Rattle.recording.specs.declared.Start.TheVariants as start
 use Rattle.recording.specs.Recording.{offset_of, opened}
 use Rattle.replay.specs.Beginning.{beginning, beginning_of}
 use Rattle.replay.specs.Log.{log_of}
@@ -115,7 +115,7 @@ module _ (events far near : List ℕ) (h : Header) where
       over_here log₁ p f k₁ over ∙ ap (λ (ls : List Line). first_apart k₁ (lines_of log₁) (map text_of ls)) (over_none q₁ b₁ r₁ c st e)
 
 -- what is to come at the start is the log
-start_log : (events far near : List ℕ) (h : Header) (lent cleared : Buffers) (s : Session) → opened events ≡ start.Opened h → beginning (begun.Ready s) cleared ≡ beginning_of h lent
+start_log : (events far near : List ℕ) (h : Header) (lent cleared : Buffers) (s : Session) → opened events ≡ Some h → beginning (begun.Ready s) cleared ≡ beginning_of h lent
     → to_come events far near h (opens s) cleared (rest (drop (offset_of h.form) events) far near) ≡ log_of events far near
 start_log events far near h lent cleared s q ready =
     let r = rest (drop (offset_of h.form) events) far near in

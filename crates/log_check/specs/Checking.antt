@@ -1,6 +1,6 @@
 -- A host that checks a log. It opens, starts and calls as any host that streams a recording does. Each line that it is told it holds against the next line of the log, of which it has
 -- some bytes at hand, in pieces that it likes; where more of them are wanted it holds more. It stops at the first line that is wrong, or where both are over.
-use Rattle.std.specs.Prelude.{ℕ, ◌+◌, ◌≡◌, false, List, [], ◌∷◌, ◌++◌, drop}
+use Rattle.std.specs.Prelude.{ℕ, ◌+◌, ◌≡◌, false, List, [], ◌∷◌, ◌++◌, drop, Some, None}
 use Rattle.scan.specs.State.{Buffers}
 use Rattle.log_lines.specs.Lines.{text_of}
 use Rattle.log_lines.specs.declared.Line.{Line}
@@ -12,7 +12,6 @@ use Rattle.log_hold.specs.declared.Due.TheVariants as due
 use Rattle.log_hold.specs.declared.Stands.TheVariants.{Right, Wrong, Over}
 use Rattle.recording.specs.Recording.{offset_of, opened, header_length}
 use Rattle.recording.specs.declared.Header.{Header}
-use Rattle.recording.specs.declared.Start.TheVariants as start
 use Rattle.replay.specs.Beginning.{beginning, beginning_of}
 use Rattle.replay.specs.declared.Session.{Session}
 use Rattle.replay.specs.declared.Begun.TheVariants as begun
@@ -50,7 +49,7 @@ pub data Checking (h : Header) : Place → Buffers → Rest → ℕ → List ℕ
 
 -- all of it: the header is read from as many bytes at hand as its first 24 say that it has, or from all where there are fewer, and the log's lines are numbered from 1
 pub data Checks (events far near log : List ℕ) : Apart → Type 0 where
-  unopened : (v : Apart) (first : Piece) → Front events first → short (header_length first.bytes) first ≡ false → opened first.bytes ≡ start.BadHeader → Holds 1 (line.BadHeader ∷ []) log v → Checks events far near log v
+  unopened : (v : Apart) (first : Piece) → Front events first → short (header_length first.bytes) first ≡ false → opened first.bytes ≡ None → Holds 1 (line.BadHeader ∷ []) log v → Checks events far near log v
   checks : (v : Apart) (first : Piece) (h : Header) (lent cleared : Buffers) (s : Session) → Front events first → short (header_length first.bytes) first ≡ false
-      → opened first.bytes ≡ start.Opened h → beginning (begun.Ready s) cleared ≡ beginning_of h lent
+      → opened first.bytes ≡ Some h → beginning (begun.Ready s) cleared ≡ beginning_of h lent
       → Checking h (opens s) cleared (rest (drop (offset_of h.form) events) far near) 1 log v → Checks events far near log v

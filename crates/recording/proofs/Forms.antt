@@ -1,4 +1,5 @@
 -- Laws of the forms: how long a header is that opens, and how many bytes samples have.
+use Rattle.std.specs.Prelude.{Option, Some, None}
 use mathlib.Core.Path.{◌≡◌, refl, sym, ap, ◌∙◌}
 use mathlib.Core.Bool.{Bool, true, false}
 use mathlib.Core.List.{List}
@@ -15,43 +16,39 @@ use Rattle.recording.specs.Recording.{u32_at, offset_of, sibling_of, shape_at, h
 use Rattle.recording.specs.Samples.{width, bytes_of}
 use Rattle.recording.specs.declared.Form.{Form}
 use Rattle.recording.specs.declared.Form.TheVariants.{Plain, Floats, Shorts}
-use Rattle.recording.specs.declared.Shape.{Shape}
-use Rattle.recording.specs.declared.Shape.TheVariants.{Known, NoForm}
 use Rattle.recording.specs.declared.Header.{Header}
-use Rattle.recording.specs.declared.Start.{Start}
-use Rattle.recording.specs.declared.Start.TheVariants.{Opened, BadHeader}
 
 -- ---- a header that opens
 
-opened_for : (t : Bool) (x : Start) (h : Header) → pick t x BadHeader ≡ Opened h → (t ≡ true) × (x ≡ Opened h)
+opened_for : (t : Bool) (x : Option Header) (h : Header) → pick t x None ≡ Some h → (t ≡ true) × (x ≡ Some h)
 unfolding pick
 opened_for true x h e = (refl, e)
 opened_for false x h e = let z : ◌≡◌ {A = ℕ} 0 1 = cc in absurd (omega (arith, z))
 
-headed_for : (s : List ℕ) (x : Shape) (h : Header) → headed s x ≡ Opened h → (x ≡ Known h.form) × (header_at h.form s ≡ h)
-headed_for s (Known form) h e = let q : header_at form s ≡ h = cc in (ap (λ (k : Header). Known k.form) q, ap (λ (k : Header). header_at k.form s) (sym q) ∙ q)
-headed_for s NoForm h e = let z : ◌≡◌ {A = ℕ} 0 1 = cc in absurd (omega (arith, z))
+headed_for : (s : List ℕ) (x : Option Form) (h : Header) → headed s x ≡ Some h → (x ≡ Some h.form) × (header_at h.form s ≡ h)
+headed_for s (Some form) h e = let q : header_at form s ≡ h = cc in (ap (λ (k : Header). Some k.form) q, ap (λ (k : Header). header_at k.form s) (sym q) ∙ q)
+headed_for s None h e = let z : ◌≡◌ {A = ℕ} 0 1 = cc in absurd (omega (arith, z))
 
-sibling_offset : (kind : ℕ) (form : Form) → sibling_of kind ≡ Known form → offset_of form ≡ 28
+sibling_offset : (kind : ℕ) (form : Form) → sibling_of kind ≡ Some form → offset_of form ≡ 28
 sibling_offset kind form =
-    pick_case (λ (x : Shape). x ≡ Known form → offset_of form ≡ 28) (eqb kind 1) _ _
+    pick_case (λ (x : Option Form). x ≡ Some form → offset_of form ≡ 28) (eqb kind 1) _ _
     (λ t e. let q : Floats ≡ form = cc in ap offset_of (sym q))
-    (λ t. pick_case (λ (x : Shape). x ≡ Known form → offset_of form ≡ 28) (eqb kind 2) _ _ (λ u e. let q : Shorts ≡ form = cc in ap offset_of (sym q)) (λ u e. let z : ◌≡◌ {A = ℕ} 0 1 = cc in absurd (omega (arith, z))))
+    (λ t. pick_case (λ (x : Option Form). x ≡ Some form → offset_of form ≡ 28) (eqb kind 2) _ _ (λ u e. let q : Shorts ≡ form = cc in ap offset_of (sym q)) (λ u e. let z : ◌≡◌ {A = ℕ} 0 1 = cc in absurd (omega (arith, z))))
 
 abbrev Offset : List ℕ → Form → Type 0
 Offset s form = ((offset_of form ≡ 24) × (u32_at s 12 ≡ 24)) ⊎ ((offset_of form ≡ 28) × (u32_at s 12 ≡ 28) × (28 ≤ length s))
 
-shape_offset : (s : List ℕ) (form : Form) → shape_at s ≡ Known form → Offset s form
+shape_offset : (s : List ℕ) (form : Form) → shape_at s ≡ Some form → Offset s form
 unfolding shape_at
 shape_offset s form =
-    pick_case (λ (x : Shape). x ≡ Known form → Offset s form) (eqb (u32_at s 12) 24) _ _
+    pick_case (λ (x : Option Form). x ≡ Some form → Offset s form) (eqb (u32_at s 12) 24) _ _
     (λ t e. let q : Plain ≡ form = cc in inl (ap offset_of (sym q), eqb-true (u32_at s 12) 24 t))
-    (λ t. pick_case (λ (x : Shape). x ≡ Known form → Offset s form) (both (eqb (u32_at s 12) 28) (leb 28 (length s))) _ _
+    (λ t. pick_case (λ (x : Option Form). x ≡ Some form → Offset s form) (both (eqb (u32_at s 12) 28) (leb 28 (length s))) _ _
     (λ b e. let w = both_true (eqb (u32_at s 12) 28) (leb 28 (length s)) b in inr (sibling_offset (u32_at s 24) form e, eqb-true (u32_at s 12) 28 w.0, leb-true 28 (length s) w.1))
     (λ b e. let z : ◌≡◌ {A = ℕ} 0 1 = cc in absurd (omega (arith, z))))
 
-module _ (s : List ℕ) (h : Header) (q : opened s ≡ Opened h) where
-  tests : (both (leb 24 (length s)) (both (allowed_rate (u32_at s 0)) (allowed_ceiling (u32_at s 4))) ≡ true) × (headed s (shape_at s) ≡ Opened h)
+module _ (s : List ℕ) (h : Header) (q : opened s ≡ Some h) where
+  tests : (both (leb 24 (length s)) (both (allowed_rate (u32_at s 0)) (allowed_ceiling (u32_at s 4))) ≡ true) × (headed s (shape_at s) ≡ Some h)
   unfolding opened
   tests = opened_for _ (headed s (shape_at s)) h q
 

@@ -1,4 +1,5 @@
 -- Laws of little-endian numbers and of samples.
+use Rattle.std.specs.Prelude.{None}
 use mathlib.Core.Path.{◌≡◌, refl, sym, ap, ◌∙◌}
 use mathlib.Core.Bool.{Bool, true, false}
 use mathlib.Core.List.{List, [], ◌∷◌, ◌++◌}
@@ -14,7 +15,6 @@ use Rattle.answers.specs.Numbers.{allowed_rate, allowed_ceiling}
 use Rattle.answers.proofs.Passed.{both_true}
 use Rattle.recording.specs.Bytes.{number_at}
 use Rattle.recording.specs.Recording.{u32_at, shape_at, headed, opened}
-use Rattle.recording.specs.declared.Start.TheVariants.{BadHeader}
 use Rattle.recording.specs.Samples.{width, samples_in, sample_at, decoded_count, decoded, supplied}
 use Rattle.recording.specs.declared.Form.{Form}
 use Rattle.recording.specs.declared.Form.TheVariants.{Plain, Floats}
@@ -49,16 +49,16 @@ number_eight s at h =
 -- ---- the header
 
 module _ (s : List ℕ) where
-  pub opened_short : length s < 24 → opened s ≡ BadHeader
+  pub opened_short : length s < 24 → opened s ≡ None
   unfolding opened
   opened_short h = pick_false _ _ _ (pick_false _ _ _ (lt-leb 24 (length s) h))
 
   module _ (whole : 24 ≤ length s) where
-    pub rate_refused : allowed_rate (u32_at s 0) ≡ false → opened s ≡ BadHeader
+    pub rate_refused : allowed_rate (u32_at s 0) ≡ false → opened s ≡ None
     unfolding opened
     rate_refused r = pick_false _ _ _ (pick_true _ _ _ (le-leb 24 (length s) whole) ∙ pick_false _ _ _ r)
 
-    pub ceiling_refused : allowed_rate (u32_at s 0) ≡ true → allowed_ceiling (u32_at s 4) ≡ false → opened s ≡ BadHeader
+    pub ceiling_refused : allowed_rate (u32_at s 0) ≡ true → allowed_ceiling (u32_at s 4) ≡ false → opened s ≡ None
     unfolding opened
     ceiling_refused r c = pick_false _ _ _ (pick_true _ _ _ (le-leb 24 (length s) whole) ∙ pick_true _ _ _ r ∙ c)
 

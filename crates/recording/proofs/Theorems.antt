@@ -1,4 +1,5 @@
 -- The promises of recordings: what was written is read back, and nothing past what is announced is read.
+use Rattle.std.specs.Prelude.{Option, Some, None}
 use mathlib.Core.Path.{◌≡◌, refl, sym, ap, ◌∙◌}
 use mathlib.Core.Bool.{Bool, true, false}
 use mathlib.Core.List.{List, ◌++◌}
@@ -17,14 +18,9 @@ use Rattle.recording.specs.Recording.{u32_at, shape_at, headed, opened, header_b
 use Rattle.recording.specs.Samples.{width, bytes_of, samples_in}
 use Rattle.recording.specs.declared.Form.{Form}
 use Rattle.recording.specs.declared.Form.TheVariants.{Plain, Floats, Shorts}
-use Rattle.recording.specs.declared.Shape.{Shape}
-use Rattle.recording.specs.declared.Shape.TheVariants.{Known, NoForm}
 use Rattle.recording.specs.declared.Header.{Header}
-use Rattle.recording.specs.declared.Start.TheVariants.{Opened}
 use Rattle.recording.specs.declared.Event.{Event}
 use Rattle.recording.specs.declared.Event.TheVariants.{Far, Near, Rearm, DiscardNear, Unconfident, Interior, Edge, Discontinuity}
-use Rattle.recording.specs.declared.Entry.TheVariants.{Good, Bad}
-use Rattle.recording.specs.declared.Entry.{Entry}
 
 -- ---- numbers
 
@@ -47,7 +43,7 @@ header_of : Form → ℕ → ℕ → ℕ → ℕ → ℕ → Header
 header_of form rate ceiling events far near = record { form = form; rate = rate; ceiling = ceiling; events = events; far = far; near = near }
 
 module _ (rate ceiling events far near : ℕ) (rest : List ℕ) (r : allowed_rate rate ≡ true) (c : allowed_ceiling ceiling ≡ true) (d : events < 2 ^ 32) (e : far < 2 ^ 32) (f : near < 2 ^ 32) where
-  written : (form : Form) → opened (header_bytes (header_of form rate ceiling events far near) ++ rest) ≡ Opened (header_of form rate ceiling events far near)
+  written : (form : Form) → opened (header_bytes (header_of form rate ceiling events far near) ++ rest) ≡ Some (header_of form rate ceiling events far near)
   unfolding opened shape_at number_at pick header_of
   written Plain =
       rw (
@@ -86,7 +82,7 @@ module _ (rate ceiling events far near : ℕ) (rest : List ℕ) (r : allowed_rat
       )
 
 pub header_back : (h : Header) (rest : List ℕ) → allowed_rate h.rate ≡ true → allowed_ceiling h.ceiling ≡ true →
-    h.events < 2 ^ 32 → h.far < 2 ^ 32 → h.near < 2 ^ 32 → opened (header_bytes h ++ rest) ≡ Opened h
+    h.events < 2 ^ 32 → h.far < 2 ^ 32 → h.near < 2 ^ 32 → opened (header_bytes h ++ rest) ≡ Some h
 unfolding header_of
 header_back h rest r c d e f = written h.rate h.ceiling h.events h.far h.near rest r c d e f h.form
 
@@ -108,15 +104,15 @@ module _ (s rest : List ℕ) (h : header_length s ≤ length s) where
   shape_within false e =
       rw (number_within 4 s rest 12 (omega (arith, least)), pick_false _ _ _ (pick_false _ (leb 28 (length (s ++ rest))) false e), pick_false _ _ _ (pick_false _ (leb 28 (length s)) false e))
 
-  headed_within : (x : Shape) → headed (s ++ rest) x ≡ headed s x
-  headed_within (Known form) = rw (
+  headed_within : (x : Option Form) → headed (s ++ rest) x ≡ headed s x
+  headed_within (Some form) = rw (
     number_within 4 s rest 0 (omega (arith, least)),
     number_within 4 s rest 4 (omega (arith, least)),
     number_within 4 s rest 8 (omega (arith, least)),
     number_within 4 s rest 16 (omega (arith, least)),
     number_within 4 s rest 20 (omega (arith, least)),
   )
-  headed_within NoForm = refl
+  headed_within None = refl
 
   pub header_within : opened (s ++ rest) ≡ opened s
   unfolding opened
@@ -145,7 +141,7 @@ few count e = omega (arith, within_most 1 4096 count e)
 sixteen : (e : Event) (rest : List ℕ) → leb (0 + 16) (length (event_bytes e ++ rest)) ≡ true
 sixteen e rest = le-leb (0 + 16) (length (event_bytes e ++ rest)) (omega arith)
 
-pub event_back : (e : Event) (rest : List ℕ) → allowed e ≡ true → event_at (event_bytes e ++ rest) 0 ≡ Good e
+pub event_back : (e : Event) (rest : List ℕ) → allowed e ≡ true → event_at (event_bytes e ++ rest) 0 ≡ Some e
 unfolding event_at event_of number_at pick
 event_back (Far count) rest h =
     rw (sixteen (Far count) rest, number_back 4 count (few count h), h)
@@ -178,7 +174,7 @@ event_after earlier s h =
       le-leb (0 + 16) (length s) (omega arith),
       number_after 4 earlier s 4,
       number_after 8 earlier s 8,
-    ) (ap (λ (k : ℕ). pick true (event_of k (number_at 4 s 4) (number_at 8 s 8)) Bad) (ap (number_at 4 (earlier ++ s)) z ∙ number_after 4 earlier s 0))
+    ) (ap (λ (k : ℕ). pick true (event_of k (number_at 4 s 4) (number_at 8 s 8)) None) (ap (number_at 4 (earlier ++ s)) z ∙ number_after 4 earlier s 0))
 
 -- the bytes of other events are not read for one
 pub event_within : (s rest : List ℕ) (at : ℕ) → at + 16 ≤ length s → event_at (s ++ rest) at ≡ event_at s at
@@ -195,13 +191,13 @@ event_within s rest at h =
 
 -- ---- reading loses nothing: a good event's three fields are the numbers that were read
 
-abbrev Said : ℕ → ℕ → ℕ → Entry → Type 0
-Said kind count number entry = (e : Event) → entry ≡ Good e → (kind_of e ≡ kind) × (count_of e ≡ count) × (number_of e ≡ number)
+abbrev Said : ℕ → ℕ → ℕ → Option Event → Type 0
+Said kind count number entry = (e : Event) → entry ≡ Some e → (kind_of e ≡ kind) × (count_of e ≡ count) × (number_of e ≡ number)
 
-bad_says : (kind count number : ℕ) → Said kind count number Bad
+bad_says : (kind count number : ℕ) → Said kind count number None
 bad_says kind count number e q = absurd (let z : ◌≡◌ {A = ℕ} 0 1 = cc in omega arith)
 
-good_says : (e : Event) (kind count number : ℕ) → kind_of e ≡ kind → count_of e ≡ count → number_of e ≡ number → Said kind count number (Good e)
+good_says : (e : Event) (kind count number : ℕ) → kind_of e ≡ kind → count_of e ≡ count → number_of e ≡ number → Said kind count number (Some e)
 good_says e kind count number k c n e' q =
     let same : e ≡ e' = cc in
     (ap kind_of (sym same) ∙ k, ap count_of (sym same) ∙ c, ap number_of (sym same) ∙ n)
@@ -210,7 +206,7 @@ good_says e kind count number k c n e' q =
 plain_says : (e : Event) (k : ℕ) → kind_of e ≡ k → count_of e ≡ 0 → number_of e ≡ 0 → (kind count number : ℕ) → eqb kind k ≡ true →
     Said kind count number (only_if (both (unused count) (unused number)) e)
 plain_says e k ke ce ne kind count number t =
-    pick_case (Said kind count number) (both (unused count) (unused number)) (Good e) Bad
+    pick_case (Said kind count number) (both (unused count) (unused number)) (Some e) None
     (λ b. let f = both_true _ _ b in good_says e kind count number (ke ∙ sym (eqb-true kind k t)) (ce ∙ sym (eqb-true count 0 f.0)) (ne ∙ sym (eqb-true number 0 f.1)))
     (λ b. bad_says kind count number)
 
@@ -228,10 +224,10 @@ fields_read kind count number =
     pick_case S (eqb kind 7) _ _ (λ t. good_says (Edge count number) kind count number (sym (eqb-true kind 7 t)) refl refl) λ _.
     pick_case S (eqb kind 8) _ _ (plain_says Discontinuity 8 refl refl refl kind count number) λ _. bad
   where
-    S : Entry → Type 0
+    S : Option Event → Type 0
     S = Said kind count number
 
-    bad : S Bad
+    bad : S None
     bad = bad_says kind count number
 
 -- ---- samples

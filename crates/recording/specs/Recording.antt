@@ -1,19 +1,13 @@
 -- SPECIFICATION 12: the header and the events of a recording.
-use Rattle.std.specs.Prelude.{ℕ, ◌+◌, ◌^◌, Bool, true, List, [], ◌++◌, ltb, leb, eqb, length}
+use Rattle.std.specs.Prelude.{ℕ, ◌+◌, ◌^◌, Bool, true, List, [], ◌++◌, ltb, leb, eqb, length, Option, Some, None}
 use Rattle.answers.specs.Pick.{pick, both}
 use Rattle.answers.specs.Numbers.{within, allowed_rate, allowed_ceiling}
 use Rattle.recording.specs.Bytes.{number_at, bytes}
 use Rattle.recording.specs.declared.Form.{Form}
 use Rattle.recording.specs.declared.Form.TheVariants.{Plain, Floats, Shorts}
-use Rattle.recording.specs.declared.Shape.{Shape}
-use Rattle.recording.specs.declared.Shape.TheVariants.{Known, NoForm}
 use Rattle.recording.specs.declared.Header.{Header}
-use Rattle.recording.specs.declared.Start.{Start}
-use Rattle.recording.specs.declared.Start.TheVariants.{Opened, BadHeader}
 use Rattle.recording.specs.declared.Event.{Event}
 use Rattle.recording.specs.declared.Event.TheVariants.{Far, Near, Rearm, DiscardNear, Unconfident, Interior, Edge, Discontinuity}
-use Rattle.recording.specs.declared.Entry.{Entry}
-use Rattle.recording.specs.declared.Entry.TheVariants.{Good, Bad}
 
 -- ---- the header: six u32, in the first 24 bytes; in a sibling of the scope paper's form a seventh, the sample kind, behind them
 
@@ -27,26 +21,26 @@ offset_of Floats = 28
 offset_of Shorts = 28
 
 -- Sample kind 1 is f32 and 2 is i16.
-abbrev pub sibling_of : ℕ → Shape
-sibling_of kind = pick (eqb kind 1) (Known Floats) (pick (eqb kind 2) (Known Shorts) NoForm)
+abbrev pub sibling_of : ℕ → Option Form
+sibling_of kind = pick (eqb kind 1) (Some Floats) (pick (eqb kind 2) (Some Shorts) None)
 
 -- The offset of the events tells the form. A sibling has 28 bytes of header, and its sample kind is one of the two.
-unfoldable pub shape_at : List ℕ → Shape
+unfoldable pub shape_at : List ℕ → Option Form
 shape_at s =
-    pick (eqb (u32_at s 12) 24) (Known Plain) (
+    pick (eqb (u32_at s 12) 24) (Some Plain) (
     pick (both (eqb (u32_at s 12) 28) (leb 28 (length s))) (sibling_of (u32_at s 24))
-    NoForm)
+    None)
 
 abbrev pub header_at : Form → List ℕ → Header
 header_at form s = record { form = form; rate = u32_at s 0; ceiling = u32_at s 4; events = u32_at s 8; far = u32_at s 16; near = u32_at s 20 }
 
-abbrev pub headed : List ℕ → Shape → Start
-headed s (Known form) = Opened (header_at form s)
-headed s NoForm = BadHeader
+abbrev pub headed : List ℕ → Option Form → Option Header
+headed s (Some form) = Some (header_at form s)
+headed s None = None
 
 -- A header is bad if it is short, if it has no form, or if rate or ceiling is outside the table.
-unfoldable pub opened : List ℕ → Start
-opened s = pick (both (leb 24 (length s)) (both (allowed_rate (u32_at s 0)) (allowed_ceiling (u32_at s 4)))) (headed s (shape_at s)) BadHeader
+unfoldable pub opened : List ℕ → Option Header
+opened s = pick (both (leb 24 (length s)) (both (allowed_rate (u32_at s 0)) (allowed_ceiling (u32_at s 4)))) (headed s (shape_at s)) None
 
 -- Tells from the first 24 bytes how many a header has: no byte behind it is read for it.
 unfoldable pub header_length : List ℕ → ℕ
@@ -71,26 +65,26 @@ some_samples count = within 1 4096 count
 abbrev pub unused : ℕ → Bool
 unused field = eqb field 0
 
-abbrev pub only_if : Bool → Event → Entry
-only_if rule event = pick rule (Good event) Bad
+abbrev pub only_if : Bool → Event → Option Event
+only_if rule event = pick rule (Some event) None
 
 -- An event is bad if its kind is unknown, if the kind does not allow its count, or if a field that the kind leaves unused is not 0.
-unfoldable pub event_of : ℕ → ℕ → ℕ → Entry
+unfoldable pub event_of : ℕ → ℕ → ℕ → Option Event
 event_of kind count number =
     pick (eqb kind 1) (only_if (both (some_samples count) (unused number)) (Far count)) (
     pick (eqb kind 2) (only_if (some_samples count) (Near count number)) (
     pick (eqb kind 3) (only_if (both (unused count) (unused number)) Rearm) (
     pick (eqb kind 4) (only_if (both (unused count) (unused number)) DiscardNear) (
     pick (eqb kind 5) (only_if (both (unused count) (unused number)) Unconfident) (
-    pick (eqb kind 6) (Good (Interior count number)) (
-    pick (eqb kind 7) (Good (Edge count number)) (
+    pick (eqb kind 6) (Some (Interior count number)) (
+    pick (eqb kind 7) (Some (Edge count number)) (
     pick (eqb kind 8) (only_if (both (unused count) (unused number)) Discontinuity)
-    Bad)))))))
+    None)))))))
 
 -- Reads the event in the 16 bytes of s from index `at` on. It is bad if they are not all there.
-unfoldable pub event_at : List ℕ → ℕ → Entry
+unfoldable pub event_at : List ℕ → ℕ → Option Event
 event_at s at =
-    pick (leb (at + 16) (length s)) (event_of (u32_at s at) (u32_at s (at + 4)) (number_at 8 s (at + 8))) Bad
+    pick (leb (at + 16) (length s)) (event_of (u32_at s at) (u32_at s (at + 4)) (number_at 8 s (at + 8))) None
 
 -- Give the kind, the count and the number of an event.
 abbrev pub kind_of : Event → ℕ

@@ -1,5 +1,5 @@
 -- SPECIFICATION 12: the samples of an event, and how they are counted.
-use Rattle.std.specs.Prelude.{ℕ, zero, suc, ◌+◌, ◌*◌, ◌/◌, min, Bool, List, [], ◌∷◌, ◌++◌, leb, Float, length, take, drop}
+use Rattle.std.specs.Prelude.{ℕ, zero, suc, ◌+◌, ◌*◌, ◌/◌, min, Bool, List, [], ◌∷◌, ◌++◌, leb, Float, length, take, drop, Option, Some, None}
 use Rattle.std.specs.Float.{binary32}
 use Rattle.std.specs.Float.Ieee.{of_bits}
 use Rattle.answers.specs.Pick.{pick, both}
@@ -12,8 +12,6 @@ use Rattle.recording.specs.declared.Lengths.{Lengths}
 use Rattle.recording.specs.declared.Used.{Used}
 use Rattle.recording.specs.declared.Event.{Event}
 use Rattle.recording.specs.declared.Event.TheVariants.{Far, Near, Rearm, DiscardNear, Unconfident, Interior, Edge, Discontinuity}
-use Rattle.recording.specs.declared.Admission.{Admission}
-use Rattle.recording.specs.declared.Admission.TheVariants.{Enough, Lacking}
 
 -- ---- samples from bytes
 
@@ -76,17 +74,17 @@ abbrev pub used_up : ℕ → ℕ → Used
 used_up f n = record { far = f; near = n }
 
 -- Gives what is used after the event. Samples are lacking if it passes a total, or if its input is short.
-unfoldable pub admitted : Header → Lengths → Used → Event → Admission
+unfoldable pub admitted : Header → Lengths → Used → Event → Option Used
 admitted h l u (Far count) =
-    pick (supplied h.form (u.far + count) h.far l.far) (Enough (used_up (u.far + count) u.near)) Lacking
+    pick (supplied h.form (u.far + count) h.far l.far) (Some (used_up (u.far + count) u.near)) None
 admitted h l u (Near count first) =
-    pick (supplied h.form (u.near + count) h.near l.near) (Enough (used_up u.far (u.near + count))) Lacking
-admitted h l u Rearm = Enough u
-admitted h l u DiscardNear = Enough u
-admitted h l u Unconfident = Enough u
-admitted h l u (Interior alignment delay) = Enough u
-admitted h l u (Edge alignment delay) = Enough u
-admitted h l u Discontinuity = Enough u
+    pick (supplied h.form (u.near + count) h.near l.near) (Some (used_up u.far (u.near + count))) None
+admitted h l u Rearm = Some u
+admitted h l u DiscardNear = Some u
+admitted h l u Unconfident = Some u
+admitted h l u (Interior alignment delay) = Some u
+admitted h l u (Edge alignment delay) = Some u
+admitted h l u Discontinuity = Some u
 
 -- The events use no fewer samples than the totals.
 unfoldable pub all_used : Header → Used → Bool

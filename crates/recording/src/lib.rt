@@ -18,13 +18,6 @@ pub enum Form {
     Shorts,
 }
 
-// The form that a header tells, if it tells one.
-#[derive(Clone, Copy)]
-pub enum Shape {
-    Known(Form),
-    NoForm,
-}
-
 // far and near are totals of samples.
 #[derive(Clone, Copy)]
 pub struct Header {
@@ -34,12 +27,6 @@ pub struct Header {
     pub events: u32,
     pub far: u32,
     pub near: u32,
-}
-
-#[derive(Clone, Copy)]
-pub enum Start {
-    Opened(Header),
-    BadHeader,
 }
 
 #[derive(Clone, Copy)]
@@ -54,12 +41,6 @@ pub enum Event {
     Discontinuity,
 }
 
-#[derive(Clone, Copy)]
-pub enum Entry {
-    Good(Event),
-    Bad,
-}
-
 // How many samples of each input the events so far have used.
 #[derive(Clone, Copy)]
 pub struct Used {
@@ -72,12 +53,6 @@ pub struct Used {
 pub struct Lengths {
     pub far: u64,
     pub near: u64,
-}
-
-#[derive(Clone, Copy)]
-pub enum Admission {
-    Enough(Used),
-    Lacking,
 }
 
 fn wide(x: u32) -> u64
@@ -124,29 +99,31 @@ pub fn u16_at(s: &[u8], at: usize) -> u16
 
 // ---- the header
 
-fn sibling(kind: u32) -> Shape
+// Gives the form of a sibling with this sample kind.
+fn sibling(kind: u32) -> Option<Form>
     ensures { result ≡ sibling_of kind }
 {
     match kind {
-        1 => Shape::Known(Form::Floats),
-        2 => Shape::Known(Form::Shorts),
-        _ => Shape::NoForm,
+        1 => Some(Form::Floats),
+        2 => Some(Form::Shorts),
+        _ => None,
     }
 }
 
-fn shape_at(s: &[u8]) -> Shape
+// Gives the form that a header tells, if it tells one.
+fn shape_at(s: &[u8]) -> Option<Form>
     requires { 24 ≤ length s.now }
     ensures { result ≡ shape_at s.now }
 {
     let offset = u32_at(s, 12);
     if offset == 24 {
-        return Shape::Known(Form::Plain);
+        return Some(Form::Plain);
     }
     if offset != 28 {
-        return Shape::NoForm;
+        return None;
     }
     if s.len() < 28 {
-        return Shape::NoForm;
+        return None;
     }
     sibling(u32_at(s, 24))
 }
@@ -165,24 +142,21 @@ fn header_at(form: Form, s: &[u8]) -> Header
     }
 }
 
-// Reads the header at the start of the event input.
-pub fn open(s: &[u8]) -> Start
+// Reads the header at the start of the event input; None is a bad header.
+pub fn open(s: &[u8]) -> Option<Header>
     ensures { result ≡ opened s.now }
 {
     if s.len() < 24 {
-        return Start::BadHeader;
+        return None;
     }
     if !answers::allowed_rate(u32_at(s, 0)) {
-        return Start::BadHeader;
+        return None;
     }
     if !answers::allowed_ceiling(u32_at(s, 4)) {
-        return Start::BadHeader;
+        return None;
     }
-    let shape = shape_at(s);
-    match shape {
-        Shape::Known(form) => Start::Opened(header_at(form, s)),
-        Shape::NoForm => Start::BadHeader,
-    }
+    let form = shape_at(s)?;
+    Some(header_at(form, s))
 }
 
 // Tells from its first 24 bytes how many a header has. A host reads 24, and 4 more only where this says so.
@@ -228,67 +202,68 @@ fn some_samples(count: u32) -> bool
 }
 
 // Reads an event of kind 1, which leaves the number unused.
-fn far_event(count: u32, number: u64) -> Entry
+fn far_event(count: u32, number: u64) -> Option<Event>
     ensures { result ≡ only_if (both (some_samples count) (Recording.unused number)) (Event.Far count) }
 {
     if !some_samples(count) {
-        return Entry::Bad;
+        return None;
     }
     if number != 0 {
-        return Entry::Bad;
+        return None;
     }
-    Entry::Good(Event::Far { count })
+    Some(Event::Far { count })
 }
 
 // Reads an event of kind 3, 4, 5 or 8, which leaves both fields unused.
-fn plain_event(count: u32, number: u64, event: Event) -> Entry
+fn plain_event(count: u32, number: u64, event: Event) -> Option<Event>
     ensures { result ≡ only_if (both (Recording.unused count) (Recording.unused number)) event }
 {
     if unused(count, number) {
-        Entry::Good(event)
+        Some(event)
     } else {
-        Entry::Bad
+        None
     }
 }
 
-fn event_of(kind: u32, count: u32, number: u64) -> Entry
+// Reads an event from its three fields; None is a bad event.
+fn event_of(kind: u32, count: u32, number: u64) -> Option<Event>
     ensures { result ≡ event_of kind count number }
 {
     match kind {
         1 => far_event(count, number),
         2 => if some_samples(count) {
-            Entry::Good(Event::Near {
+            Some(Event::Near {
                 count,
                 first: number,
             })
         } else {
-            Entry::Bad
+            None
         },
         3 => plain_event(count, number, Event::Rearm),
         4 => plain_event(count, number, Event::DiscardNear),
         5 => plain_event(count, number, Event::Unconfident),
-        6 => Entry::Good(Event::Interior {
+        6 => Some(Event::Interior {
             alignment: count,
             delay: number,
         }),
-        7 => Entry::Good(Event::Edge {
+        7 => Some(Event::Edge {
             alignment: count,
             delay: number,
         }),
         8 => plain_event(count, number, Event::Discontinuity),
-        _ => Entry::Bad,
+        _ => None,
     }
 }
 
-// Reads the event in the 16 bytes of s from at on.
-pub fn event_at(s: &[u8], at: usize) -> Entry
+// Reads the event in the 16 bytes of s from at on; None is a bad event.
+pub fn event_at(s: &[u8], at: usize) -> Option<Event>
     ensures { result ≡ event_at s.now at }
 {
     if s.len() < 16 {
-        return Entry::Bad;
+        return None;
     }
     if s.len() - 16 < at {
-        return Entry::Bad;
+        return None;
     }
     event_of(u32_at(s, at), u32_at(s, at + 4), u64_at(s, at + 8))
 }
@@ -318,44 +293,44 @@ fn supplied(form: Form, used: u64, count: u32, total: u32, length: u64) -> bool
     bytes_of(form, samples as u32) <= length
 }
 
-// Tells whether the totals and the bytes of the two sample inputs allow the event, and what is used after it.
-pub fn admit(header: Header, lengths: Lengths, used: Used, event: Event) -> Admission
+// Gives what is used after the event, or None if the totals or the bytes of the two sample inputs do not allow it.
+pub fn admit(header: Header, lengths: Lengths, used: Used, event: Event) -> Option<Used>
     ensures { result ≡ admitted header lengths used event }
 {
     let form = header.form;
     match event {
         Event::Far { count } => {
             if supplied(form, used.far, count, header.far, lengths.far) {
-                Admission::Enough(Used {
+                Some(Used {
                     far: used.far + count as u64,
                     near: used.near,
                 })
             } else {
-                Admission::Lacking
+                None
             }
         }
         Event::Near { count, first: _ } => {
             if supplied(form, used.near, count, header.near, lengths.near) {
-                Admission::Enough(Used {
+                Some(Used {
                     far: used.far,
                     near: used.near + count as u64,
                 })
             } else {
-                Admission::Lacking
+                None
             }
         }
-        Event::Rearm => Admission::Enough(used),
-        Event::DiscardNear => Admission::Enough(used),
-        Event::Unconfident => Admission::Enough(used),
+        Event::Rearm => Some(used),
+        Event::DiscardNear => Some(used),
+        Event::Unconfident => Some(used),
         Event::Interior {
             alignment: _,
             delay: _,
-        } => Admission::Enough(used),
+        } => Some(used),
         Event::Edge {
             alignment: _,
             delay: _,
-        } => Admission::Enough(used),
-        Event::Discontinuity => Admission::Enough(used),
+        } => Some(used),
+        Event::Discontinuity => Some(used),
     }
 }
 

@@ -1,4 +1,5 @@
 -- A conversion that came to its end: what is known of the recording, and what was given.
+use Rattle.std.specs.Prelude.{Option, Some, None}
 use mathlib.Core.Path.{◌≡◌, refl, sym, ap, ◌∙◌}
 use mathlib.Core.Bool.{true, false≢true}
 use Prim.Native.Nat.{ℕ, ◌+◌, ◌*◌, ◌^◌, ◌<◌, ◌≤◌}
@@ -14,8 +15,6 @@ use Rattle.recording.specs.Samples.{used_up, all_used}
 use Rattle.recording.specs.declared.Form.{Form}
 use Rattle.recording.specs.declared.Form.TheVariants.{Plain, Floats, Shorts}
 use Rattle.recording.specs.declared.Header.{Header}
-use Rattle.recording.specs.declared.Start.{Start}
-use Rattle.recording.specs.declared.Start.TheVariants as start
 use Rattle.recording.specs.declared.Used.{Used}
 use Rattle.recording.proofs.Theorems.{header_back}
 use Rattle.recording.proofs.Forms.{opened_header, opened_allowed, opened_whole}
@@ -33,7 +32,7 @@ totals h = used_up h.far h.near
 
 pub record Came (d : Direction) (r g : Recording) : Type 0 where
   pub header : Header
-  pub opens : opened r.events ≡ start.Opened header
+  pub opens : opened r.events ≡ Some header
   pub form : header.form ≡ form_from d
   pub trace : Trace d header r header.events 0 (used_up 0 0) (totals header)
   pub stands : Stands d header r (totals header)
@@ -69,9 +68,9 @@ all_used_lem h w e f n =
     let near : w.near ≡ h.near = le_antisymm n (leb-true h.near w.near t.1) in
     ap (λ (k : ℕ). used_up k w.near) far ∙ ap (λ (k : ℕ). used_up h.far k) near
 
-came_from : (d : Direction) (r g : Recording) (o : Start) → opened r.events ≡ o → whole_at r o ≡ true → form_is (form_from d) o ≡ true → converted_as d r o ≡ Converted g → Came d r g
-came_from d r g start.BadHeader e w f q = absurd (false≢true w)
-came_from d r g (start.Opened h) e w f q =
+came_from : (d : Direction) (r g : Recording) (o : Option Header) → opened r.events ≡ o → whole_at r o ≡ true → form_is (form_from d) o ≡ true → converted_as d r o ≡ Converted g → Came d r g
+came_from d r g None e w f q = absurd (false≢true w)
+came_from d r g (Some h) e w f q =
     let t = trace_of d h r g h.events 0 (used_up 0 0) w q in
     let st = at_end d h r h.events 0 (used_up 0 0) t.0 t.1 (no_fine d h r) in
     let end : t.0 ≡ totals h = all_used_lem h t.0 t.2 st.far_most st.near_most in
@@ -99,7 +98,7 @@ came d r g q =
 
 -- ---- the header that is given opens
 
-pub given_opens : (d : Direction) (r g : Recording) (c : Came d r g) → AreBytes r.events → opened g.events ≡ start.Opened (as_form (form_to d) c.header)
+pub given_opens : (d : Direction) (r g : Recording) (c : Came d r g) → AreBytes r.events → opened g.events ≡ Some (as_form (form_to d) c.header)
 given_opens d r g c b =
     let h = c.header in
     let s = r.events in

@@ -1,4 +1,5 @@
 -- What a conversion gives: the same events, and samples that mean the same.
+use Rattle.std.specs.Prelude.{Option, Some, None}
 use mathlib.Core.Path.{◌≡◌, refl, sym, ap, ◌∙◌}
 use mathlib.Core.Bool.{Bool, true, false}
 use mathlib.Core.List.{List, [], ◌∷◌, ◌++◌}
@@ -16,11 +17,8 @@ use Rattle.recording.specs.declared.Form.{Form}
 use Rattle.recording.specs.declared.Form.TheVariants.{Plain, Floats, Shorts}
 use Rattle.recording.specs.declared.Header.{Header}
 use Rattle.recording.specs.declared.Used.{Used}
-use Rattle.recording.specs.declared.Admission.TheVariants as admission
 use Rattle.recording.specs.declared.Event.{Event}
 use Rattle.recording.specs.declared.Event.TheVariants as event
-use Rattle.recording.specs.declared.Entry.{Entry}
-use Rattle.recording.specs.declared.Entry.TheVariants as entry
 use Rattle.recording.proofs.Theorems.{event_within}
 use Rattle.recording.proofs.Forms.{bytes_mono}
 use Rattle.recording_convert.specs.Whole.{Recording, lengths_of, entry_of}
@@ -62,12 +60,12 @@ header_long Plain h = refl
 header_long Floats h = refl
 header_long Shorts h = refl
 
-good_there : (t : Bool) (x : Entry) (k : Event) → pick t x entry.Bad ≡ entry.Good k → t ≡ true
+good_there : (t : Bool) (x : Option Event) (k : Event) → pick t x None ≡ Some k → t ≡ true
 unfolding pick
 good_there true x k e = refl
 good_there false x k e = let z : ◌≡◌ {A = ℕ} 0 1 = cc in absurd (omega (arith, z))
 
-good_long : (s : List ℕ) (at : ℕ) (k : Event) → event_at s at ≡ entry.Good k → at + 16 ≤ length s
+good_long : (s : List ℕ) (at : ℕ) (k : Event) → event_at s at ≡ Some k → at + 16 ≤ length s
 unfolding event_at
 good_long s at k e = leb-true (at + 16) (length s) (good_there _ _ k e)
 
@@ -116,18 +114,18 @@ module _ (d : Direction) (s : List ℕ) (b : AreBytes s) (W : ℕ) (fine : Fine 
 
 -- where all samples within the totals are stored, what was admitted is admitted
 pub same_admission : (d : Direction) (h : Header) (r g : Recording) (u v : Used) (k : Event) → bytes_of (form_to d) h.far ≤ length g.far → bytes_of (form_to d) h.near ≤ length g.near
-    → admitted h (lengths_of r) u k ≡ admission.Enough v → admitted (as_form (form_to d) h) (lengths_of g) u k ≡ admission.Enough v
+    → admitted h (lengths_of r) u k ≡ Some v → admitted (as_form (form_to d) h) (lengths_of g) u k ≡ Some v
 unfolding admitted
 same_admission d h r g u v (event.Far count) far near a =
     let w = enough (supplied h.form (u.far + count) h.far (length r.far)) (used_up (u.far + count) u.near) v a in
     let most = leb-true (u.far + count) h.far (both_true _ _ w.0).0 in
     pick_true _ _ _ (pick_true _ _ _ (le-leb (u.far + count) h.far most) ∙ le-leb (bytes_of (form_to d) (u.far + count)) (length g.far) (omega (arith, far, bytes_mono (form_to d) (u.far + count) h.far most)))
-    ∙ ap admission.Enough w.1
+    ∙ ap Some w.1
 same_admission d h r g u v (event.Near count first) far near a =
     let w = enough (supplied h.form (u.near + count) h.near (length r.near)) (used_up u.far (u.near + count)) v a in
     let most = leb-true (u.near + count) h.near (both_true _ _ w.0).0 in
     pick_true _ _ _ (pick_true _ _ _ (le-leb (u.near + count) h.near most) ∙ le-leb (bytes_of (form_to d) (u.near + count)) (length g.near) (omega (arith, near, bytes_mono (form_to d) (u.near + count) h.near most)))
-    ∙ ap admission.Enough w.1
+    ∙ ap Some w.1
 same_admission d h r g u v event.Rearm far near a = a
 same_admission d h r g u v event.DiscardNear far near a = a
 same_admission d h r g u v event.Unconfident far near a = a

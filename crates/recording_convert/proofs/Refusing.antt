@@ -1,4 +1,5 @@
 -- When a conversion is refused, and that what it names is the first.
+use Rattle.std.specs.Prelude.{Option, Some, None}
 use mathlib.Core.Path.{◌≡◌, refl, sym, ap, ◌∙◌}
 use mathlib.Core.Bool.{Bool, true, false, false≢true}
 use mathlib.Core.List.{List}
@@ -9,8 +10,6 @@ use Rattle.answers.proofs.Passed.{both_true}
 use Rattle.recording.specs.Recording.{opened}
 use Rattle.recording.specs.Samples.{used_up}
 use Rattle.recording.specs.declared.Header.{Header}
-use Rattle.recording.specs.declared.Start.{Start}
-use Rattle.recording.specs.declared.Start.TheVariants as start
 use Rattle.recording.specs.declared.Used.{Used}
 use Rattle.recording_convert.specs.Whole.{Recording, entry_of, used_by, whole_recording}
 use Rattle.recording_convert.specs.Converting.{form_from, Sample, Stored, Strange, sample_to, bits_at, Found, Nowhere, Behind, one_later, or_later, first_strange, written, Converting, Unrepresentable, OtherForm, strange_of, side_of, place_on, used_after, unless, convert_from, form_is, converted_as, converted}
@@ -126,9 +125,9 @@ unless_form d h r (suc left) e u =
 abbrev pub Taken : Direction → Recording → Bool
 Taken d r = both (whole_recording r) (form_is (form_from d) (opened r.events))
 
-taken_not_other : (d : Direction) (r : Recording) (o : Start) → form_is (form_from d) o ≡ true → converted_as d r o ≡ OtherForm → ⊥
-taken_not_other d r start.BadHeader f q = false≢true f
-taken_not_other d r (start.Opened h) f q = unless_form d h r h.events 0 (used_up 0 0) q
+taken_not_other : (d : Direction) (r : Recording) (o : Option Header) → form_is (form_from d) o ≡ true → converted_as d r o ≡ OtherForm → ⊥
+taken_not_other d r None f q = false≢true f
+taken_not_other d r (Some h) f q = unless_form d h r h.events 0 (used_up 0 0) q
 
 pub other_if : (d : Direction) (r : Recording) → Taken d r ≡ false → converted d r ≡ OtherForm
 unfolding converted

@@ -1,4 +1,5 @@
 -- Samples there and back.
+use Rattle.std.specs.Prelude.{Option, Some, None}
 use mathlib.Core.Path.{◌≡◌, refl, sym, ap, ◌∙◌}
 use mathlib.Core.List.{List, ◌++◌}
 use mathlib.Core.Logic.{inl, inr}
@@ -13,8 +14,6 @@ use lib.Ieee.Bits.{to_bits-lt}
 use borrow.Author.Tests.{eqb-true}
 use Rattle.answers.specs.Pick.{pick_case}
 use Rattle.recording_shorts.specs.Shorts.{short_sample, quotient_bits, short_among, short_of}
-use Rattle.recording_shorts.specs.declared.Short.{Short}
-use Rattle.recording_shorts.specs.declared.Short.TheVariants as short
 use Rattle.recording_shorts.proofs.Laws.{short_fits, read_back}
 use Rattle.recording_shorts.proofs.Finding.{found}
 use Rattle.recording.specs.Bytes.{number_at, bytes}
@@ -29,15 +28,15 @@ use Rattle.recording_convert.proofs.Numbers.{number_within, bytes_length, number
 
 -- ---- one sample
 
-among_is : (count bits n : ℕ) → short_among count bits ≡ short.Number n → (quotient_bits n ≡ bits) × (n < count)
+among_is : (count bits n : ℕ) → short_among count bits ≡ Some n → (quotient_bits n ≡ bits) × (n < count)
 unfolding short_among
 among_is zero bits n = λ e. let z : ◌≡◌ {A = ℕ} 0 1 = cc in absurd (omega (arith, z))
 among_is (suc k) bits n =
-    pick_case (λ (x : Short). x ≡ short.Number n → (quotient_bits n ≡ bits) × (n < suc k)) (eqb (quotient_bits k) bits) _ _
+    pick_case (λ (x : Option ℕ). x ≡ Some n → (quotient_bits n ≡ bits) × (n < suc k)) (eqb (quotient_bits k) bits) _ _
     (λ t q. let same : k ≡ n = cc in (ap quotient_bits (sym same) ∙ eqb-true (quotient_bits k) bits t, omega (arith, same)))
     (λ t q. let w = among_is k bits n q in (w.0, omega (arith, w.1)))
 
-pub short_is : (bits n : ℕ) → short_of bits ≡ short.Number n → (quotient_bits n ≡ bits) × (n < 65536)
+pub short_is : (bits n : ℕ) → short_of bits ≡ Some n → (quotient_bits n ≡ bits) × (n < 65536)
 unfolding short_of
 short_is bits n e = among_is 65536 bits n e
 
@@ -55,13 +54,13 @@ sample_back ToFloats x y h e =
     (ap (λ (k : ℕ). of_short (short_of k)) (sym q) ∙ ap of_short (found x (quotient_bits x) h refl), rw q at (quotient_below x), ap (of_bits binary32) (sym q) ∙ read_back x)
 sample_back ToShorts x y h e = go (short_of x) refl e
   where
-    go : (o : Short) → short_of x ≡ o → of_short o ≡ Stored y → Back ToShorts x y
-    go (short.Number n) q e =
+    go : (o : Option ℕ) → short_of x ≡ o → of_short o ≡ Stored y → Back ToShorts x y
+    go (Some n) q e =
         let same : n ≡ y = cc in
         let w = short_is x n q in
         let is : quotient_bits y ≡ x = ap quotient_bits (sym same) ∙ w.0 in
         (ap Stored is, omega (arith, same, w.1), sym (ap (of_bits binary32) (sym is) ∙ read_back y))
-    go short.None q e = let z : ◌≡◌ {A = ℕ} 0 1 = cc in absurd (omega (arith, z))
+    go None q e = let z : ◌≡◌ {A = ℕ} 0 1 = cc in absurd (omega (arith, z))
 
 -- ---- samples of which none is strange
 

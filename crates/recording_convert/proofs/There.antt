@@ -1,4 +1,5 @@
 -- There and back gives the same bytes, up to the end that the header announces.
+use Rattle.std.specs.Prelude.{Option, Some, None}
 use mathlib.Core.Path.{◌≡◌, refl, sym, ap, ◌∙◌, subst}
 use mathlib.Core.Bool.{Bool, true, false}
 use mathlib.Core.List.{List, ◌++◌, append-nil}
@@ -16,18 +17,10 @@ use Rattle.recording.specs.Recording.{u32_at, offset_of, shape_at, header_at, he
 use Rattle.recording.specs.Samples.{bytes_of, used_up, supplied, admitted, all_used}
 use Rattle.recording.specs.declared.Form.{Form}
 use Rattle.recording.specs.declared.Form.TheVariants.{Plain, Floats, Shorts}
-use Rattle.recording.specs.declared.Shape.{Shape}
-use Rattle.recording.specs.declared.Shape.TheVariants.{Known, NoForm}
 use Rattle.recording.specs.declared.Header.{Header}
-use Rattle.recording.specs.declared.Start.{Start}
-use Rattle.recording.specs.declared.Start.TheVariants as start
 use Rattle.recording.specs.declared.Used.{Used}
-use Rattle.recording.specs.declared.Admission.{Admission}
-use Rattle.recording.specs.declared.Admission.TheVariants as admission
 use Rattle.recording.specs.declared.Event.{Event}
 use Rattle.recording.specs.declared.Event.TheVariants as event
-use Rattle.recording.specs.declared.Entry.{Entry}
-use Rattle.recording.specs.declared.Entry.TheVariants as entry
 use Rattle.recording.proofs.Forms.{opened_header, opened_whole}
 use Rattle.recording_convert.specs.Whole.{Recording, lengths_of, entry_of, used_by, then_whole, whole_from, whole_at, whole_recording}
 use Rattle.recording_convert.specs.Converting.{form_from, form_to, back, sample_to, bits_at, Stored, stored, Found, Nowhere, as_form, written, Converting, Converted, Unrepresentable, strange_of, side_of, place_on, used_after, unless, convert_from, same_form, form_is, converted_as, converted, announced_by, announced}
@@ -42,16 +35,16 @@ use Rattle.recording_convert.proofs.Came.{totals, Came, came, given_opens}
 
 -- ---- the bytes of a header that opens
 
-opened_for : (t : Bool) (x : Start) (h : Header) → pick t x start.BadHeader ≡ start.Opened h → x ≡ start.Opened h
+opened_for : (t : Bool) (x : Option Header) (h : Header) → pick t x None ≡ Some h → x ≡ Some h
 unfolding pick
 opened_for true x h e = e
 opened_for false x h e = let z : ◌≡◌ {A = ℕ} 0 1 = cc in absurd (omega (arith, z))
 
-headed_for : (s : List ℕ) (x : Shape) (h : Header) → headed s x ≡ start.Opened h → x ≡ Known h.form
-headed_for s (Known form) h e = let q : header_at form s ≡ h = cc in ap (λ (k : Header). Known k.form) q
-headed_for s NoForm h e = let z : ◌≡◌ {A = ℕ} 0 1 = cc in absurd (omega (arith, z))
+headed_for : (s : List ℕ) (x : Option Form) (h : Header) → headed s x ≡ Some h → x ≡ Some h.form
+headed_for s (Some form) h e = let q : header_at form s ≡ h = cc in ap (λ (k : Header). Some k.form) q
+headed_for s None h e = let z : ◌≡◌ {A = ℕ} 0 1 = cc in absurd (omega (arith, z))
 
-opened_shape : (s : List ℕ) (h : Header) → opened s ≡ start.Opened h → shape_at s ≡ Known h.form
+opened_shape : (s : List ℕ) (h : Header) → opened s ≡ Some h → shape_at s ≡ Some h.form
 unfolding opened
 opened_shape s h q = headed_for s (shape_at s) h (opened_for _ (headed s (shape_at s)) h q)
 
@@ -60,16 +53,16 @@ Told s Plain = u32_at s 12 ≡ 24
 Told s Floats = (u32_at s 12 ≡ 28) × (u32_at s 24 ≡ 1)
 Told s Shorts = (u32_at s 12 ≡ 28) × (u32_at s 24 ≡ 2)
 
-told : (s : List ℕ) (form : Form) → shape_at s ≡ Known form → Told s form
+told : (s : List ℕ) (form : Form) → shape_at s ≡ Some form → Told s form
 unfolding shape_at
 told s form =
-    pick_case (λ (x : Shape). x ≡ Known form → Told s form) (eqb (u32_at s 12) 24) _ _
+    pick_case (λ (x : Option Form). x ≡ Some form → Told s form) (eqb (u32_at s 12) 24) _ _
     (λ t e. let q : Plain ≡ form = cc in subst (Told s) q (eqb-true (u32_at s 12) 24 t))
-    (λ t. pick_case (λ (x : Shape). x ≡ Known form → Told s form) (both (eqb (u32_at s 12) 28) (leb 28 (length s))) _ _
+    (λ t. pick_case (λ (x : Option Form). x ≡ Some form → Told s form) (both (eqb (u32_at s 12) 28) (leb 28 (length s))) _ _
     (λ b. let at = eqb-true (u32_at s 12) 28 (both_true (eqb (u32_at s 12) 28) _ b).0 in
-    pick_case (λ (x : Shape). x ≡ Known form → Told s form) (eqb (u32_at s 24) 1) _ _
+    pick_case (λ (x : Option Form). x ≡ Some form → Told s form) (eqb (u32_at s 24) 1) _ _
     (λ k e. let q : Floats ≡ form = cc in subst (Told s) q (at, eqb-true (u32_at s 24) 1 k))
-    (λ k. pick_case (λ (x : Shape). x ≡ Known form → Told s form) (eqb (u32_at s 24) 2) _ _
+    (λ k. pick_case (λ (x : Option Form). x ≡ Some form → Told s form) (eqb (u32_at s 24) 2) _ _
     (λ l e. let q : Shorts ≡ form = cc in subst (Told s) q (at, eqb-true (u32_at s 24) 2 l))
     (λ l e. let z : ◌≡◌ {A = ℕ} 0 1 = cc in absurd (omega (arith, z)))))
     (λ b e. let z : ◌≡◌ {A = ℕ} 0 1 = cc in absurd (omega (arith, z))))
@@ -100,7 +93,7 @@ module _ (s : List ℕ) (b : AreBytes s) where
   again Floats t h = join _ 24 1 (six 28 t.0 (omega (arith, h))) t.1 h
   again Shorts t h = join _ 24 2 (six 28 t.0 (omega (arith, h))) t.1 h
 
-  header_again : (h : Header) → opened s ≡ start.Opened h → header_bytes h ≡ take (offset_of h.form) s
+  header_again : (h : Header) → opened s ≡ Some h → header_bytes h ≡ take (offset_of h.form) s
   header_again h q = ap header_bytes (sym (opened_header s h q)) ∙ again h.form (told s h.form (opened_shape s h q)) (opened_whole s h q)
 
 -- ---- samples that were converted can be converted back
@@ -149,7 +142,7 @@ module _ (d : Direction) (r g : Recording) (b : OfBytes r) (c : Came d r g) wher
   near_long : bytes_of (form_to d) h.near ≤ length x.near
   near_long = omega (arith, stored_length d r.near h.near c.stands.near_fine)
 
-  none_back : (u v : Used) (k : Event) → admitted h (lengths_of r) u k ≡ admission.Enough v → strange_of (back d) x u (entry.Good k) ≡ Nowhere
+  none_back : (u v : Used) (k : Event) → admitted h (lengths_of r) u k ≡ Some v → strange_of (back d) x u (Some k) ≡ Nowhere
   unfolding admitted
   none_back u v (event.Far count) a =
       let w = enough (supplied h.form (u.far + count) h.far (length r.far)) (used_up (u.far + count) u.near) v a in
@@ -172,20 +165,20 @@ module _ (d : Direction) (r g : Recording) (b : OfBytes r) (c : Came d r g) wher
   unfolding whole_from
   whole_back left e u w (done e₁ u₁) z all = all
   whole_back left e u w (one left₁ e₁ u₁ v w₁ k is a strange later) z all =
-      let here : entry_of (form_to d) x e₁ ≡ entry.Good k = same_entry d h r h.events e₁ (totals h) (omega (arith, z)) c.long ∙ is in
-      ap (λ (n : Entry). then_whole (used_by h' x u₁ n) (λ (y : Used). whole_from h' x left₁ (e₁ + 1) y)) here
-      ∙ ap (λ (n : Admission). then_whole n (λ (y : Used). whole_from h' x left₁ (e₁ + 1) y)) (same_admission d h r x u₁ v k far_long near_long a)
+      let here : entry_of (form_to d) x e₁ ≡ Some k = same_entry d h r h.events e₁ (totals h) (omega (arith, z)) c.long ∙ is in
+      ap (λ (n : Option Event). then_whole (used_by h' x u₁ n) (λ (y : Used). whole_from h' x left₁ (e₁ + 1) y)) here
+      ∙ ap (λ (n : Option Used). then_whole n (λ (y : Used). whole_from h' x left₁ (e₁ + 1) y)) (same_admission d h r x u₁ v k far_long near_long a)
       ∙ whole_back left₁ (e₁ + 1) v w₁ later (omega (arith, z)) all
 
   convert_back : (left e : ℕ) (u w : Used) → Trace d h r left e u w → e + left ≡ h.events → convert_from (back d) h' x left e u ≡ Converted (written (back d) h' x h.events w)
   unfolding convert_from
   convert_back left e u w (done e₁ u₁) z = let n : e₁ ≡ h.events = omega (arith, z) in ap (λ (k : ℕ). Converted (written (back d) h' x k u₁)) n
   convert_back left e u w (one left₁ e₁ u₁ v w₁ k is a strange later) z =
-      let here : entry_of (form_to d) x e₁ ≡ entry.Good k = same_entry d h r h.events e₁ (totals h) (omega (arith, z)) c.long ∙ is in
-      let fails : Entry → ℕ → Converting = λ n j. Unrepresentable e₁ j (side_of n) (place_on (side_of n) u₁ j) (written (back d) h' x e₁ u₁) in
-      let onwards : Admission → Converting = λ n. convert_from (back d) h' x left₁ (e₁ + 1) (used_after u₁ n) in
-      ap (λ (n : Entry). unless (strange_of (back d) x u₁ n) (fails n) (onwards (used_by h' x u₁ n))) here
-      ∙ ap (λ (f : Found). unless f (fails (entry.Good k)) (onwards (used_by h' x u₁ (entry.Good k)))) (none_back u₁ v k a)
+      let here : entry_of (form_to d) x e₁ ≡ Some k = same_entry d h r h.events e₁ (totals h) (omega (arith, z)) c.long ∙ is in
+      let fails : Option Event → ℕ → Converting = λ n j. Unrepresentable e₁ j (side_of n) (place_on (side_of n) u₁ j) (written (back d) h' x e₁ u₁) in
+      let onwards : Option Used → Converting = λ n. convert_from (back d) h' x left₁ (e₁ + 1) (used_after u₁ n) in
+      ap (λ (n : Option Event). unless (strange_of (back d) x u₁ n) (fails n) (onwards (used_by h' x u₁ n))) here
+      ∙ ap (λ (f : Found). unless f (fails (Some k)) (onwards (used_by h' x u₁ (Some k)))) (none_back u₁ v k a)
       ∙ ap onwards (same_admission d h r x u₁ v k far_long near_long a)
       ∙ convert_back left₁ (e₁ + 1) v w₁ later (omega (arith, z))
 
@@ -215,24 +208,24 @@ module _ (d : Direction) (r g : Recording) (b : OfBytes r) (c : Came d r g) wher
   near_back : stored (back d) x.near h.near ≡ take (bytes_of h.form h.near) r.near
   near_back = stored_again d r.near b.near h.near c.stands.near_fine near_there ∙ ap (λ (f : Form). take (bytes_of f h.near) r.near) (sym c.form)
 
-  same_bytes : written (back d) h' x h.events (totals h) ≡ announced_by r (start.Opened h)
+  same_bytes : written (back d) h' x h.events (totals h) ≡ announced_by r (Some h)
   same_bytes = rw (events_back, far_back, near_back)
 
   came_back : converted (back d) g ≡ Converted (announced r)
   unfolding converted announced whole_recording
   came_back =
-      let opens : opened x.events ≡ start.Opened h' = ap (λ (y : Recording). opened y.events) c.is ∙ given_opens d r g c b.events in
+      let opens : opened x.events ≡ Some h' = ap (λ (y : Recording). opened y.events) c.is ∙ given_opens d r g c b.events in
       let N = h.events in
-      let is_whole : whole_at x (start.Opened h') ≡ true = whole_back N 0 (used_up 0 0) (totals h) c.trace (omega arith) all_totals in
-      let is-form : form_is (form_from (back d)) (start.Opened h') ≡ true = ap (λ (f : Form). same_form f (form_to d)) (back_from d) ∙ same_form_lem (form_to d) in
+      let is_whole : whole_at x (Some h') ≡ true = whole_back N 0 (used_up 0 0) (totals h) c.trace (omega arith) all_totals in
+      let is-form : form_is (form_from (back d)) (Some h') ≡ true = ap (λ (f : Form). same_form f (form_to d)) (back_from d) ∙ same_form_lem (form_to d) in
       let taken : both (whole_at x (opened x.events)) (form_is (form_from (back d)) (opened x.events)) ≡ true =
-      ap (λ (o : Start). both (whole_at x o) (form_is (form_from (back d)) o)) opens ∙ pick_true _ _ _ is_whole ∙ is-form in
+      ap (λ (o : Option Header). both (whole_at x o) (form_is (form_from (back d)) o)) opens ∙ pick_true _ _ _ is_whole ∙ is-form in
       ap (converted (back d)) (sym c.is)
       ∙ pick_true _ _ _ taken
       ∙ ap (converted_as (back d) x) opens
       ∙ convert_back N 0 (used_up 0 0) (totals h) c.trace (omega arith)
       ∙ ap Converted same_bytes
-      ∙ ap (λ (o : Start). Converted (announced_by r o)) (sym c.opens)
+      ∙ ap (λ (o : Option Header). Converted (announced_by r o)) (sym c.opens)
 
 -- Converted one way and then the other, a recording comes back, up to the end that its header announces.
 pub there_and_back : (d : Direction) (r g : Recording) → OfBytes r → converted d r ≡ Converted g → converted (back d) g ≡ Converted (announced r)

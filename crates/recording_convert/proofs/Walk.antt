@@ -1,4 +1,5 @@
 -- A conversion that came to its end: event by event, each good, admitted and without a strange sample.
+use Rattle.std.specs.Prelude.{Option, Some, None}
 use mathlib.Core.Path.{◌≡◌, refl, ap, ◌∙◌}
 use mathlib.Core.Bool.{Bool, true, false, false≢true}
 use mathlib.Core.List.{List}
@@ -14,12 +15,8 @@ use Rattle.floats.proofs.Compare.{le_or_lt}
 use Rattle.recording.specs.Samples.{bytes_of, used_up, supplied, admitted, all_used}
 use Rattle.recording.specs.declared.Header.{Header}
 use Rattle.recording.specs.declared.Used.{Used}
-use Rattle.recording.specs.declared.Admission.{Admission}
-use Rattle.recording.specs.declared.Admission.TheVariants as admission
 use Rattle.recording.specs.declared.Event.{Event}
 use Rattle.recording.specs.declared.Event.TheVariants as event
-use Rattle.recording.specs.declared.Entry.{Entry}
-use Rattle.recording.specs.declared.Entry.TheVariants as entry
 use Rattle.recording_convert.specs.Whole.{Recording, lengths_of, entry_of, used_by, then_whole, whole_from}
 use Rattle.recording_convert.specs.Converting.{form_from, sample_to, bits_at, Found, Nowhere, Behind, written, Converting, Converted, Unrepresentable, strange_of, side_of, place_on, used_after, unless, convert_from}
 use Rattle.recording_convert.specs.declared.Direction.{Direction}
@@ -27,7 +24,7 @@ use Rattle.recording_convert.proofs.Samples.{Fine, fine_of}
 
 pub data Trace (d : Direction) (h : Header) (r : Recording) : ℕ → ℕ → Used → Used → Type 0 where
   done : (e : ℕ) (u : Used) → Trace d h r zero e u u
-  one : (left e : ℕ) (u v w : Used) (k : Event) → entry_of h.form r e ≡ entry.Good k → admitted h (lengths_of r) u k ≡ admission.Enough v → strange_of d r u (entry.Good k) ≡ Nowhere
+  one : (left e : ℕ) (u v w : Used) (k : Event) → entry_of h.form r e ≡ Some k → admitted h (lengths_of r) u k ≡ Some v → strange_of d r u (Some k) ≡ Nowhere
       → Trace d h r left (e + 1) v w → Trace d h r (suc left) e u w
 
 module _ (d : Direction) (h : Header) (r : Recording) (g : Recording) where
@@ -39,26 +36,26 @@ module _ (d : Direction) (h : Header) (r : Recording) (g : Recording) where
     abbrev later : Used → Bool
     later v = whole_from h r left (e + 1) v
 
-    abbrev fails : Entry → ℕ → Converting
+    abbrev fails : Option Event → ℕ → Converting
     fails k sample = Unrepresentable e sample (side_of k) (place_on (side_of k) u sample) (written d h r e u)
 
-    finds : (k : Event) → entry_of h.form r e ≡ entry.Good k → (v : Used) → admitted h (lengths_of r) u k ≡ admission.Enough v → later v ≡ true → (f : Found)
-        → strange_of d r u (entry.Good k) ≡ f → unless f (fails (entry.Good k)) (convert_from d h r left (e + 1) v) ≡ Converted g → Ends (suc left) e u
+    finds : (k : Event) → entry_of h.form r e ≡ Some k → (v : Used) → admitted h (lengths_of r) u k ≡ Some v → later v ≡ true → (f : Found)
+        → strange_of d r u (Some k) ≡ f → unless f (fails (Some k)) (convert_from d h r left (e + 1) v) ≡ Converted g → Ends (suc left) e u
     finds k is v a p (Behind others) s q = let z : ◌≡◌ {A = ℕ} 0 1 = cc in absurd (omega (arith, z))
     finds k is v a p Nowhere s q =
         let t = again v p q in
         let z : e + suc left ≡ e + 1 + left = omega arith in
         (t.0, one left e u v t.0 k is a s t.1, t.2, ap (λ (n : ℕ). written d h r n t.0) z ∙ t.3)
 
-    admits : (k : Event) → entry_of h.form r e ≡ entry.Good k → (a : Admission) → admitted h (lengths_of r) u k ≡ a → then_whole a later ≡ true
-        → unless (strange_of d r u (entry.Good k)) (fails (entry.Good k)) (convert_from d h r left (e + 1) (used_after u a)) ≡ Converted g → Ends (suc left) e u
-    admits k is admission.Lacking a p q = absurd (false≢true p)
-    admits k is (admission.Enough v) a p q = finds k is v a p (strange_of d r u (entry.Good k)) refl q
+    admits : (k : Event) → entry_of h.form r e ≡ Some k → (a : Option Used) → admitted h (lengths_of r) u k ≡ a → then_whole a later ≡ true
+        → unless (strange_of d r u (Some k)) (fails (Some k)) (convert_from d h r left (e + 1) (used_after u a)) ≡ Converted g → Ends (suc left) e u
+    admits k is None a p q = absurd (false≢true p)
+    admits k is (Some v) a p q = finds k is v a p (strange_of d r u (Some k)) refl q
 
-    entries : (k : Entry) → entry_of h.form r e ≡ k → then_whole (used_by h r u k) later ≡ true
+    entries : (k : Option Event) → entry_of h.form r e ≡ k → then_whole (used_by h r u k) later ≡ true
         → unless (strange_of d r u k) (fails k) (convert_from d h r left (e + 1) (used_after u (used_by h r u k))) ≡ Converted g → Ends (suc left) e u
-    entries entry.Bad is p q = absurd (false≢true p)
-    entries (entry.Good k) is p q = admits k is (admitted h (lengths_of r) u k) refl p q
+    entries None is p q = absurd (false≢true p)
+    entries (Some k) is p q = admits k is (admitted h (lengths_of r) u k) refl p q
 
   pub trace_of : (left e : ℕ) (u : Used) → whole_from h r left e u ≡ true → convert_from d h r left e u ≡ Converted g → Ends left e u
   unfolding whole_from convert_from
@@ -87,16 +84,16 @@ more_fine d s u c f g j h = elim (le_or_lt u j) [
   | inr b ↦ f j b
 ]
 
-pub enough : (t : Bool) (v u : Used) → pick t (admission.Enough v) admission.Lacking ≡ admission.Enough u → (t ≡ true) × (v ≡ u)
+pub enough : (t : Bool) (v u : Used) → pick t (Some v) None ≡ Some u → (t ≡ true) × (v ≡ u)
 unfolding pick
 enough true v u e = (refl, cc)
 enough false v u e = let z : ◌≡◌ {A = ℕ} 0 1 = cc in absurd (omega (arith, z))
 
 module _ (d : Direction) (h : Header) (r : Recording) where
-  stays : (u v : Used) → admission.Enough u ≡ admission.Enough v → Stands d h r u → Stands d h r v
+  stays : (u v : Used) → Some u ≡ Some v → Stands d h r u → Stands d h r v
   stays u v q st = let same : u ≡ v = cc in rw same at st
 
-  pub behind_event : (u v : Used) (k : Event) → admitted h (lengths_of r) u k ≡ admission.Enough v → strange_of d r u (entry.Good k) ≡ Nowhere → Stands d h r u → Stands d h r v
+  pub behind_event : (u v : Used) (k : Event) → admitted h (lengths_of r) u k ≡ Some v → strange_of d r u (Some k) ≡ Nowhere → Stands d h r u → Stands d h r v
   unfolding admitted
   behind_event u v (event.Far count) a s st =
       let w = enough (supplied h.form (u.far + count) h.far (length r.far)) (used_up (u.far + count) u.near) v a in

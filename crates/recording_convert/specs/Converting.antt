@@ -1,23 +1,16 @@
 -- SPECIFICATION 12: a recording of 16-bit samples as one of the scope paper's form, and back.
-use Rattle.std.specs.Prelude.{ℕ, zero, suc, ◌+◌, ◌*◌, Bool, true, false, List, [], ◌++◌, take, drop}
+use Rattle.std.specs.Prelude.{ℕ, zero, suc, ◌+◌, ◌*◌, Bool, true, false, List, [], ◌++◌, take, drop, Option, Some, None}
+use Rattle.recording.specs.declared.Event.{Event}
 use Rattle.answers.specs.Pick.{pick, both}
 use Rattle.recording_shorts.specs.Shorts.{quotient_bits, short_of}
-use Rattle.recording_shorts.specs.declared.Short.{Short}
-use Rattle.recording_shorts.specs.declared.Short.TheVariants as short
 use Rattle.recording.specs.Bytes.{number_at, bytes}
 use Rattle.recording.specs.Recording.{offset_of, opened, header_bytes}
 use Rattle.recording.specs.Samples.{width, bytes_of, used_up}
 use Rattle.recording.specs.declared.Form.{Form}
 use Rattle.recording.specs.declared.Form.TheVariants.{Plain, Floats, Shorts}
 use Rattle.recording.specs.declared.Header.{Header}
-use Rattle.recording.specs.declared.Start.{Start}
-use Rattle.recording.specs.declared.Start.TheVariants as start
 use Rattle.recording.specs.declared.Used.{Used}
 use Rattle.recording.specs.declared.Event.TheVariants as event
-use Rattle.recording.specs.declared.Entry.{Entry}
-use Rattle.recording.specs.declared.Entry.TheVariants as entry
-use Rattle.recording.specs.declared.Admission.{Admission}
-use Rattle.recording.specs.declared.Admission.TheVariants as admission
 use Rattle.recording_convert.specs.Whole.{Recording, entry_of, used_by, whole_recording}
 use Rattle.recording_convert.specs.declared.Direction.{Direction}
 use Rattle.recording_convert.specs.declared.Direction.TheVariants.{ToFloats, ToShorts}
@@ -44,9 +37,9 @@ pub data Sample : Type 0 where
   Stored : (bits : ℕ) → Sample
   Strange : Sample
 
-abbrev pub of_short : Short → Sample
-of_short (short.Number n) = Stored n
-of_short short.None = Strange
+abbrev pub of_short : Option ℕ → Sample
+of_short (Some n) = Stored n
+of_short None = Strange
 
 -- Converts one sample: a number becomes its quotient's pattern, and a pattern the number whose quotient has it. Any other pattern is strange, that of -0.0 among them.
 abbrev pub sample_to : Direction → ℕ → Sample
@@ -109,27 +102,27 @@ pub data Converting : Type 0 where
   OtherForm : Converting
 
 -- Finds an event's first strange sample, with its side and its place there.
-abbrev pub strange_of : Direction → Recording → Used → Entry → Found
-strange_of d r u entry.Bad = Nowhere
-strange_of d r u (entry.Good (event.Far count)) = first_strange d r.far u.far count
-strange_of d r u (entry.Good (event.Near count first)) = first_strange d r.near u.near count
-strange_of d r u (entry.Good event.Rearm) = Nowhere
-strange_of d r u (entry.Good event.DiscardNear) = Nowhere
-strange_of d r u (entry.Good event.Unconfident) = Nowhere
-strange_of d r u (entry.Good (event.Interior alignment delay)) = Nowhere
-strange_of d r u (entry.Good (event.Edge alignment delay)) = Nowhere
-strange_of d r u (entry.Good event.Discontinuity) = Nowhere
+abbrev pub strange_of : Direction → Recording → Used → Option Event → Found
+strange_of d r u None = Nowhere
+strange_of d r u (Some (event.Far count)) = first_strange d r.far u.far count
+strange_of d r u (Some (event.Near count first)) = first_strange d r.near u.near count
+strange_of d r u (Some event.Rearm) = Nowhere
+strange_of d r u (Some event.DiscardNear) = Nowhere
+strange_of d r u (Some event.Unconfident) = Nowhere
+strange_of d r u (Some (event.Interior alignment delay)) = Nowhere
+strange_of d r u (Some (event.Edge alignment delay)) = Nowhere
+strange_of d r u (Some event.Discontinuity) = Nowhere
 
-abbrev pub side_of : Entry → Side
-side_of entry.Bad = NoSide
-side_of (entry.Good (event.Far count)) = FarSide
-side_of (entry.Good (event.Near count first)) = NearSide
-side_of (entry.Good event.Rearm) = NoSide
-side_of (entry.Good event.DiscardNear) = NoSide
-side_of (entry.Good event.Unconfident) = NoSide
-side_of (entry.Good (event.Interior alignment delay)) = NoSide
-side_of (entry.Good (event.Edge alignment delay)) = NoSide
-side_of (entry.Good event.Discontinuity) = NoSide
+abbrev pub side_of : Option Event → Side
+side_of None = NoSide
+side_of (Some (event.Far count)) = FarSide
+side_of (Some (event.Near count first)) = NearSide
+side_of (Some event.Rearm) = NoSide
+side_of (Some event.DiscardNear) = NoSide
+side_of (Some event.Unconfident) = NoSide
+side_of (Some (event.Interior alignment delay)) = NoSide
+side_of (Some (event.Edge alignment delay)) = NoSide
+side_of (Some event.Discontinuity) = NoSide
 
 abbrev pub place_on : Side → Used → ℕ → ℕ
 place_on FarSide u sample = u.far + sample
@@ -137,9 +130,9 @@ place_on NearSide u sample = u.near + sample
 place_on NoSide u sample = sample
 
 -- What is used behind an event of a whole recording.
-abbrev pub used_after : Used → Admission → Used
-used_after u admission.Lacking = u
-used_after u (admission.Enough v) = v
+abbrev pub used_after : Used → Option Used → Used
+used_after u None = u
+used_after u (Some v) = v
 
 abbrev pub unless : Found → (ℕ → Converting) → Converting → Converting
 unless Nowhere strange behind = behind
@@ -167,13 +160,13 @@ same_form Shorts Plain = false
 same_form Shorts Floats = false
 same_form Shorts Shorts = true
 
-abbrev pub form_is : Form → Start → Bool
-form_is form start.BadHeader = false
-form_is form (start.Opened h) = same_form form h.form
+abbrev pub form_is : Form → Option Header → Bool
+form_is form None = false
+form_is form (Some h) = same_form form h.form
 
-abbrev pub converted_as : Direction → Recording → Start → Converting
-converted_as d r start.BadHeader = OtherForm
-converted_as d r (start.Opened h) = convert_from d h r h.events 0 (used_up 0 0)
+abbrev pub converted_as : Direction → Recording → Option Header → Converting
+converted_as d r None = OtherForm
+converted_as d r (Some h) = convert_from d h r h.events 0 (used_up 0 0)
 
 -- Another form, or a recording that is not whole, comes before all else.
 unfoldable pub converted : Direction → Recording → Converting
@@ -187,9 +180,9 @@ shortened r = converted ToShorts r
 
 -- ---- up to the end that the header announces
 
-abbrev pub announced_by : Recording → Start → Recording
-announced_by r start.BadHeader = r
-announced_by r (start.Opened h) =
+abbrev pub announced_by : Recording → Option Header → Recording
+announced_by r None = r
+announced_by r (Some h) =
     record {
       events = take (offset_of h.form + 16 * h.events) r.events;
       far = take (bytes_of h.form h.far) r.far;

@@ -5,7 +5,7 @@ ghost use Rattle.std.specs.Prelude.{◌≡◌};
 ghost use Rattle.recording.specs.Recording.{event_at};
 ghost use Rattle.recording_convert.specs.Whole.{judged};
 
-use recording::{Admission, Entry, Header, Lengths, Used};
+use recording::{Header, Lengths, Used};
 
 // Which way: from signed 16-bit samples to f32 ones, or from f32 samples to 16-bit ones.
 #[derive(Clone, Copy)]
@@ -23,12 +23,12 @@ pub enum Side {
 }
 
 // Judges the entry in the 16 bytes from at on, in a first pass over the events: what is used behind it, or that the recording is not whole.
-pub fn judge(header: Header, lengths: Lengths, used: Used, events: &[u8], at: usize) -> Admission
+pub fn judge(header: Header, lengths: Lengths, used: Used, events: &[u8], at: usize) -> Option<Used>
     ensures { result ≡ judged header lengths used (event_at events.now at) }
 {
     let entry = recording::event_at(events, at);
     match entry {
-        Entry::Bad => Admission::Lacking,
-        Entry::Good(event) => recording::admit(header, lengths, used, event),
+        None => None,
+        Some(event) => recording::admit(header, lengths, used, event),
     }
 }

@@ -7,7 +7,7 @@ ghost use Rattle.pipes.specs.Window.{Within};
 
 use pipes::window;
 use pipes::window::Window;
-use recording::Start;
+use recording::Header;
 use std::fs::File;
 
 // The first 24 bytes are at hand: so many more may be read.
@@ -35,7 +35,7 @@ pub fn read(events: Option<&File>, most: u64, room: &mut [u8]) -> Window
 }
 
 // What stands in the bytes of the header.
-pub fn opened(head: Window, room: &[u8]) -> Start
+pub fn opened(head: Window, room: &[u8]) -> Option<Header>
     requires { (Within head) × (length room.now ≡ 65536) }
 {
     let at = head.at;

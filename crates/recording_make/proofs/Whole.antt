@@ -1,4 +1,5 @@
 -- A recording that is made is whole: each event is good and has its samples, and together they use every sample of both sides. So no line of its log begins with `bad`.
+use Rattle.std.specs.Prelude.{Some}
 use mathlib.Core.Path.{◌≡◌, refl, sym, ap, ◌∙◌}
 use mathlib.Core.Bool.{Bool, true, false, true≢false}
 use mathlib.Core.List.{List, ◌++◌, append_assoc}
@@ -16,12 +17,9 @@ use Rattle.recording.specs.Samples.{bytes_of, used_up, admitted, all_used}
 use Rattle.recording.specs.declared.Form.{Form}
 use Rattle.recording.specs.declared.Form.TheVariants.{Plain, Floats, Shorts}
 use Rattle.recording.specs.declared.Header.{Header}
-use Rattle.recording.specs.declared.Start.TheVariants.{Opened}
 use Rattle.recording.specs.declared.Used.{Used}
 use Rattle.recording.specs.declared.Event.{Event}
 use Rattle.recording.specs.declared.Event.TheVariants.{Far, Near}
-use Rattle.recording.specs.declared.Entry.TheVariants.{Good}
-use Rattle.recording.specs.declared.Admission.TheVariants.{Enough}
 use Rattle.recording.proofs.Forms.{bytes_mono}
 use Rattle.recording.proofs.Theorems.{header_back, event_back, event_after}
 use Rattle.recording_convert.specs.Whole.{Recording, lengths_of, entry_of, used_by, then_whole, whole_from, whole_at, whole_recording}
@@ -54,7 +52,7 @@ header_bytes_length h = by_form h.form refl
     by_form Shorts e = rw e
 
 -- an event stands behind others, and is read
-read_at : (earlier rest : List ℕ) (e : Event) → allowed e ≡ true → event_at (earlier ++ (event_bytes e ++ rest)) (length earlier) ≡ Good e
+read_at : (earlier rest : List ℕ) (e : Event) → allowed e ≡ true → event_at (earlier ++ (event_bytes e ++ rest)) (length earlier) ≡ Some e
 read_at earlier rest e a = event_after earlier (event_bytes e ++ rest) (omega arith) ∙ event_back e rest a
 
 -- a count of samples that an event may have
@@ -119,19 +117,19 @@ module _ (p : Plan) (fit : Fit p) where
     recorded = record { events = events; far = far; near = near }
 
     -- an event is good, and has its samples
-    one : (e : Event) (u v : Used) (k : ℕ) (earlier rest : List ℕ) (behind : Used → Bool) → allowed e ≡ true → admitted p.header (lengths_of recorded) u e ≡ Enough v →
+    one : (e : Event) (u v : Used) (k : ℕ) (earlier rest : List ℕ) (behind : Used → Bool) → allowed e ≡ true → admitted p.header (lengths_of recorded) u e ≡ Some v →
         length earlier ≡ offset_of p.header.form + 16 * k → events ≡ earlier ++ (event_bytes e ++ rest) →
         then_whole (used_by p.header recorded u (entry_of p.header.form recorded k)) behind ≡ behind v
     one e u v k earlier rest behind a s l q =
-        let there : entry_of p.header.form recorded k ≡ Good e = ap (event_at events) (sym l) ∙ ap (λ (x : List ℕ). event_at x (length earlier)) q ∙ read_at earlier rest e a in
+        let there : entry_of p.header.form recorded k ≡ Some e = ap (event_at events) (sym l) ∙ ap (λ (x : List ℕ). event_at x (length earlier)) q ∙ read_at earlier rest e a in
         rw (there, s)
 
-    far_admitted : (u : Used) (count : ℕ) → u.far + count ≤ p.header.far → admitted p.header (lengths_of recorded) u (Far count) ≡ Enough (used_up (u.far + count) u.near)
+    far_admitted : (u : Used) (count : ℕ) → u.far + count ≤ p.header.far → admitted p.header (lengths_of recorded) u (Far count) ≡ Some (used_up (u.far + count) u.near)
     unfolding admitted
     far_admitted u count l =
         pick_true _ _ _ (pick_true _ _ _ (le-leb _ _ l) ∙ le-leb _ _ (le_trans (bytes_mono p.header.form (u.far + count) p.header.far l) f))
 
-    near_admitted : (u : Used) (count first : ℕ) → u.near + count ≤ p.header.near → admitted p.header (lengths_of recorded) u (Near count first) ≡ Enough (used_up u.far (u.near + count))
+    near_admitted : (u : Used) (count first : ℕ) → u.near + count ≤ p.header.near → admitted p.header (lengths_of recorded) u (Near count first) ≡ Some (used_up u.far (u.near + count))
     unfolding admitted
     near_admitted u count first l =
         pick_true _ _ _ (pick_true _ _ _ (le-leb _ _ l) ∙ le-leb _ _ (le_trans (bytes_mono p.header.form (u.near + count) p.header.near l) n))
@@ -210,7 +208,7 @@ made_whole p far near fit f n =
       few_events (piece p fit) p.header.far (enough p fit) fit.far,
       few_events (piece p fit) p.header.near (enough p fit) fit.near,
     ) in
-    let opens : opened events ≡ Opened p.header =
+    let opens : opened events ≡ Some p.header =
     header_back p.header (events_from p p.header.events (used_up 0 0)) fit.rate fit.ceiling total fit.far fit.near in
     let all-far : p.header.far - 0 ≡ p.header.far = omega arith in
     let all_near : p.header.near - 0 ≡ p.header.near = omega arith in

@@ -1,10 +1,8 @@
 -- SPECIFICATION 12: what a signed 16-bit sample means, and which f32 patterns such a sample has.
-use Rattle.std.specs.Prelude.{ℕ, zero, suc, ◌-◌, ltb, eqb, ℤ, pos, negsuc, Float}
+use Rattle.std.specs.Prelude.{ℕ, zero, suc, ◌-◌, ltb, eqb, ℤ, pos, negsuc, Float, Option, Some, None}
 use Rattle.std.specs.Float.{binary32}
 use Rattle.std.specs.Float.Ieee.{of_int, div, to_bits}
 use Rattle.answers.specs.Pick.{pick}
-use Rattle.recording_shorts.specs.declared.Short.{Short}
-use Rattle.recording_shorts.specs.declared.Short.TheVariants.{Number, None}
 
 -- Reads 16 bits as a signed number, in two's complement: from 32,768 on it is n - 65,536. (`negsuc k` is -(k + 1).)
 unfoldable pub signed : ℕ → ℤ
@@ -19,10 +17,10 @@ unfoldable pub quotient_bits : ℕ → ℕ
 quotient_bits n = to_bits binary32 (short_sample n)
 
 -- Looks for a pattern among those of the numbers below `count`.
-unfoldable pub short_among : ℕ → ℕ → Short
+unfoldable pub short_among : ℕ → ℕ → Option ℕ
 short_among zero bits = None
-short_among (suc n) bits = pick (eqb (quotient_bits n) bits) (Number n) (short_among n bits)
+short_among (suc n) bits = pick (eqb (quotient_bits n) bits) (Some n) (short_among n bits)
 
 -- Gives the 16 bits whose quotient has this pattern, if there are any.
-unfoldable pub short_of : ℕ → Short
+unfoldable pub short_of : ℕ → Option ℕ
 short_of bits = short_among 65536 bits

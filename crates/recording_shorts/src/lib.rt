@@ -5,12 +5,6 @@ ghost use Rattle.std.specs.Prelude.{◌≡◌};
 ghost use Rattle.recording_shorts.specs.Shorts.{short_sample, quotient_bits, short_of};
 ghost use Rattle.recording_shorts.specs.Steps.{SizeOf, Guessed};
 
-#[derive(Clone, Copy)]
-pub enum Short {
-    Number(u16),
-    None,
-}
-
 const SIGN: u32 = 0x8000_0000;
 
 // The weight of the exponent's field of an f32's pattern, which is also that of the leading digit.
@@ -66,12 +60,12 @@ fn guess(bits: u32) -> u16
 }
 
 // Gives the 16 bits whose quotient has this pattern, if there are any: the pattern of the one number that can have it is formed again and compared.
-pub fn number(bits: u32) -> Short
+pub fn number(bits: u32) -> Option<u16>
     ensures { result ≡ short_of bits }
 {
     let n = guess(bits);
     if quotient_bits(n) == bits {
-        return Short::Number(n);
+        return Some(n);
     }
-    Short::None
+    None
 }

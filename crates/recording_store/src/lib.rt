@@ -12,7 +12,6 @@ ghost use Rattle.recording_store.specs.Steps.{is_fine, bits_in, code_at, found_a
 
 use recording::{Form, Header};
 use recording_convert::Direction;
-use recording_shorts::Short;
 
 // What became of an event's samples. NoRoom: not all their bytes are there, or there is no room for them. StrangeAt: one of them is no sample of the other kind, and so many stand
 // before it. All: they are written, in so many bytes.
@@ -45,8 +44,8 @@ fn short_at(s: &[u8], i: usize) -> Code
 {
     let short = recording_shorts::number(recording::u32_at(s, 4 * i));
     match short {
-        Short::Number(n) => Code::Bits(n as u32),
-        Short::None => Code::Odd,
+        Some(n) => Code::Bits(n as u32),
+        None => Code::Odd,
     }
 }
 

@@ -1,4 +1,5 @@
 -- A start that is ready, and that `start` accepts what was opened.
+use Rattle.std.specs.Prelude.{Some}
 use Prim.Native.Nat.{ℕ}
 use mathlib.Core.Path.{◌≡◌, ap, ◌∙◌}
 use mathlib.Core.Bool.{Bool, true, false}
@@ -13,7 +14,6 @@ use Rattle.scan.specs.Calls.{all_lengths}
 use Rattle.recording.specs.Recording.{opened}
 use Rattle.recording.proofs.Forms.{opened_allowed}
 use Rattle.recording.specs.declared.Header.{Header}
-use Rattle.recording.specs.declared.Start.TheVariants as start
 use Rattle.replay.specs.Log.{new_session, clear_buffers}
 use Rattle.replay.specs.Beginning.{Beginning, beginning, start_refusal, beginning_of}
 use Rattle.replay.specs.declared.Session.{Session}
@@ -34,12 +34,12 @@ unfolding beginning_of
 ready_is h b c s e =
     ready_for (eqb (start_refusal h.rate h.ceiling b) 0) (start_refusal h.rate h.ceiling b) s (new_session h.rate h.ceiling) b c (clear_buffers (geometry_of h.rate h.ceiling)) e
 
-pub opened_in_table : (events : List ℕ) (h : Header) → opened events ≡ start.Opened h → in_table h.rate h.ceiling ≡ true
+pub opened_in_table : (events : List ℕ) (h : Header) → opened events ≡ Some h → in_table h.rate h.ceiling ≡ true
 unfolding in_table
 opened_in_table events h q = opened_allowed events h q
 
 -- with buffers of the right lengths `start` never refuses a header that was opened
-pub accepts : (events : List ℕ) (h : Header) (b : Buffers) → opened events ≡ start.Opened h → all_lengths full_slack (geometry_of h.rate h.ceiling) b ≡ true
+pub accepts : (events : List ℕ) (h : Header) (b : Buffers) → opened events ≡ Some h → all_lengths full_slack (geometry_of h.rate h.ceiling) b ≡ true
     → beginning_of h b ≡ beginning (begun.Ready (new_session h.rate h.ceiling)) (clear_buffers (geometry_of h.rate h.ceiling))
 unfolding beginning_of start_refusal
 accepts events h b q fit =

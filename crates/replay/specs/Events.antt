@@ -1,5 +1,5 @@
 -- SPECIFICATION 12: what one event does to a session and to the lent buffers, and the lines that it logs.
-use Rattle.std.specs.Prelude.{ℕ, Bool, true, false, List, [], ◌∷◌, ◌++◌, Float}
+use Rattle.std.specs.Prelude.{ℕ, Bool, true, false, List, [], ◌∷◌, ◌++◌, Float, Option, Some, None}
 use Rattle.answers.specs.Pick.{pick}
 use Rattle.answers.specs.Numbers.{next_long_count}
 use Rattle.units.specs.Units.{samples}
@@ -24,12 +24,8 @@ use Rattle.recording.specs.Samples.{admitted}
 use Rattle.recording.specs.declared.Header.{Header}
 use Rattle.recording.specs.declared.Lengths.{Lengths}
 use Rattle.recording.specs.declared.Used.{Used}
-use Rattle.recording.specs.declared.Admission.{Admission}
-use Rattle.recording.specs.declared.Admission.TheVariants as admission
 use Rattle.recording.specs.declared.Event.{Event}
 use Rattle.recording.specs.declared.Event.TheVariants as event
-use Rattle.recording.specs.declared.Entry.{Entry}
-use Rattle.recording.specs.declared.Entry.TheVariants as entry
 use Rattle.replay.specs.Words.{word_of, cycle_line, cycles_after, change_lines}
 use Rattle.replay.specs.declared.Session.{Session}
 
@@ -139,11 +135,11 @@ abbrev pub bad_event : ℕ → Session → Buffers → Play
 bad_event e s b = stops (line.BadEvent e) s b
 
 -- an event whose input is short, or which passes a total, is bad; the samples of a refused event count as used
-abbrev pub after_admission : ℕ → Session → Buffers → Event → List Float → Admission → Play
-after_admission e s b event xs admission.Lacking = bad_event e s b
-after_admission e s b event xs (admission.Enough used) = event_played e (with_used s used) b event xs
+abbrev pub after_admission : ℕ → Session → Buffers → Event → List Float → Option Used → Play
+after_admission e s b event xs None = bad_event e s b
+after_admission e s b event xs (Some used) = event_played e (with_used s used) b event xs
 
 -- event number e of a recording with this header, whose sample inputs have so many bytes
-unfoldable pub stepped : Header → Lengths → ℕ → Session → Buffers → Entry → List Float → Play
-stepped h l e s b entry.Bad xs = bad_event e s b
-stepped h l e s b (entry.Good event) xs = after_admission e s b event xs (admitted h l s.used event)
+unfoldable pub stepped : Header → Lengths → ℕ → Session → Buffers → Option Event → List Float → Play
+stepped h l e s b None xs = bad_event e s b
+stepped h l e s b (Some event) xs = after_admission e s b event xs (admitted h l s.used event)

@@ -1,5 +1,6 @@
 -- SPECIFICATION 12: the log of a recording, from the bytes of its three inputs.
-use Rattle.std.specs.Prelude.{ℕ, zero, suc, ◌+◌, ◌*◌, ◌/◌, List, [], ◌∷◌, ◌++◌, length, Float}
+use Rattle.std.specs.Prelude.{ℕ, zero, suc, ◌+◌, ◌*◌, ◌/◌, List, [], ◌∷◌, ◌++◌, length, Float, Option, Some, None}
+use Rattle.recording.specs.declared.Event.{Event}
 use Rattle.answers.specs.Pick.{pick}
 use Rattle.folds.specs.Sums.{zeros}
 use Rattle.scan.specs.Bins.{geometry_of, full_slack, envelope_len, near_len, window_len, prefix_len, lags}
@@ -13,12 +14,8 @@ use Rattle.recording.specs.Recording.{offset_of, opened, event_at}
 use Rattle.recording.specs.Samples.{width, samples_in, samples_of, used_up, all_used}
 use Rattle.recording.specs.declared.Form.{Form}
 use Rattle.recording.specs.declared.Header.{Header}
-use Rattle.recording.specs.declared.Start.{Start}
-use Rattle.recording.specs.declared.Start.TheVariants as start
 use Rattle.recording.specs.declared.Used.{Used}
 use Rattle.recording.specs.declared.Lengths.{Lengths}
-use Rattle.recording.specs.declared.Entry.{Entry}
-use Rattle.recording.specs.declared.Entry.TheVariants as entry
 use Rattle.replay.specs.Events.{Play, stepped}
 use Rattle.replay.specs.declared.Session.{Session}
 
@@ -48,9 +45,9 @@ clear_buffers g =
 
 -- ---- the samples of an event, from what its input has left
 
-abbrev pub samples_for : Inputs → Used → Entry → List Float
-samples_for i u entry.Bad = []
-samples_for i u (entry.Good event) = samples_of i.far i.near event u.far u.near
+abbrev pub samples_for : Inputs → Used → Option Event → List Float
+samples_for i u None = []
+samples_for i u (Some event) = samples_of i.far i.near event u.far u.near
 
 -- ---- the lines
 
@@ -59,7 +56,7 @@ unfoldable pub closing : Header → Session → Line
 closing h s = pick (all_used h s.used) (line.End s.frames s.cycles) line.BadTotals
 
 -- event number e is in the 16 bytes from 16 e on behind the header
-abbrev pub event_number : Form → List ℕ → ℕ → Entry
+abbrev pub event_number : Form → List ℕ → ℕ → Option Event
 event_number form events e = event_at events (offset_of form + 16 * e)
 
 -- event number e
@@ -80,9 +77,9 @@ abbrev pub inputs : Form → List ℕ → List ℕ → List ℕ → Inputs
 inputs form events far near =
     record { events = events; far = all_samples form far; near = all_samples form near; lengths = record { far = length far; near = length near } }
 
-abbrev pub started : List ℕ → List ℕ → List ℕ → Start → List Line
-started events far near start.BadHeader = line.BadHeader ∷ []
-started events far near (start.Opened h) =
+abbrev pub started : List ℕ → List ℕ → List ℕ → Option Header → List Line
+started events far near None = line.BadHeader ∷ []
+started events far near (Some h) =
     line.Replay h.rate h.ceiling
     ∷ lines_from (inputs h.form events far near) h h.events 0 (new_session h.rate h.ceiling) (clear_buffers (geometry_of h.rate h.ceiling))
 

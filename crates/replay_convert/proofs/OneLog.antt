@@ -1,4 +1,5 @@
 -- A recording and what it is converted to have one log: the same events, and samples that are the same floats.
+use Rattle.std.specs.Prelude.{Option, Some}
 use mathlib.Core.Path.{◌≡◌, refl, sym, ap, ◌∙◌}
 use mathlib.Core.List.{List, [], ◌∷◌, ◌++◌}
 use Prim.Native.Nat.{ℕ, ◌+◌, ◌≤◌}
@@ -15,13 +16,9 @@ use Rattle.log_lines.specs.declared.Line.TheVariants as line
 use Rattle.recording.specs.Samples.{bytes_of, part, samples_of, used_up, supplied, admitted, all_used}
 use Rattle.recording.specs.declared.Form.{Form}
 use Rattle.recording.specs.declared.Header.{Header}
-use Rattle.recording.specs.declared.Start.TheVariants as start
 use Rattle.recording.specs.declared.Used.{Used}
-use Rattle.recording.specs.declared.Admission.TheVariants as admission
 use Rattle.recording.specs.declared.Event.{Event}
 use Rattle.recording.specs.declared.Event.TheVariants as event
-use Rattle.recording.specs.declared.Entry.{Entry}
-use Rattle.recording.specs.declared.Entry.TheVariants as entry
 use Rattle.recording.proofs.Forms.{bytes_mono}
 use Rattle.recording_convert.specs.Whole.{Recording, lengths_of}
 use Rattle.recording_convert.specs.Converting.{form_from, form_to, stored, as_form, written, Converted, converted}
@@ -78,7 +75,7 @@ module _ (d : Direction) (r g : Recording) (b : OfBytes r) (c : Came d r g) wher
   near_long : bytes_of (form_to d) h.near ≤ length x.near
   near_long = omega (arith, stored_length d r.near h.near c.stands.near_fine)
 
-  same_handed : (u v : Used) (k : Event) → admitted h (lengths_of r) u k ≡ admission.Enough v → samples_for i' u (entry.Good k) ≡ samples_for i u (entry.Good k)
+  same_handed : (u v : Used) (k : Event) → admitted h (lengths_of r) u k ≡ Some v → samples_for i' u (Some k) ≡ samples_for i u (Some k)
   unfolding samples_of admitted
   same_handed u v (event.Far count) a =
       let w = enough (supplied h.form (u.far + count) h.far (length r.far)) (used_up (u.far + count) u.near) v a in
@@ -99,21 +96,21 @@ module _ (d : Direction) (r g : Recording) (b : OfBytes r) (c : Came d r g) wher
 
   -- ---- event by event
 
-  plays : (e : ℕ) (s : Session) (bs : Buffers) (j : Inputs) (k : Header) (ev : Event) (v : Used) → event_number k.form j.events e ≡ entry.Good ev → admitted k j.lengths s.used ev ≡ admission.Enough v
-      → step_at j k e s bs ≡ event_played e (with_used s v) bs ev (samples_for j s.used (entry.Good ev))
+  plays : (e : ℕ) (s : Session) (bs : Buffers) (j : Inputs) (k : Header) (ev : Event) (v : Used) → event_number k.form j.events e ≡ Some ev → admitted k j.lengths s.used ev ≡ Some v
+      → step_at j k e s bs ≡ event_played e (with_used s v) bs ev (samples_for j s.used (Some ev))
   unfolding stepped
   plays e s bs j k ev v is a =
-      ap (λ (n : Entry). stepped k j.lengths e s bs n (samples_for j s.used n)) is
-      ∙ ap (after_admission e s bs ev (samples_for j s.used (entry.Good ev))) a
+      ap (λ (n : Option Event). stepped k j.lengths e s bs n (samples_for j s.used n)) is
+      ∙ ap (after_admission e s bs ev (samples_for j s.used (Some ev))) a
 
   same_lines : (left e : ℕ) (u w : Used) → Trace d h r left e u w → e + left ≡ h.events → (s : Session) (bs : Buffers) → s.used ≡ u → lines_from i' h' left e s bs ≡ lines_from i h left e s bs
   unfolding lines_from closing all_used
   same_lines left e u w (done e₁ u₁) z s bs q = refl
   same_lines left e u w (one left₁ e₁ u₁ v w₁ k is a strange later) z s bs q =
-      let here : admitted h (lengths_of r) s.used k ≡ admission.Enough v = ap (λ (n : Used). admitted h (lengths_of r) n k) q ∙ a in
-      let there : admitted h' (lengths_of x) s.used k ≡ admission.Enough v = same_admission d h r x s.used v k far_long near_long here in
-      let entry' : event_number (form_to d) x.events e₁ ≡ entry.Good k = same_entry d h r h.events e₁ (totals h) (omega (arith, z)) c.long ∙ is in
-      let xs = samples_for i s.used (entry.Good k) in
+      let here : admitted h (lengths_of r) s.used k ≡ Some v = ap (λ (n : Used). admitted h (lengths_of r) n k) q ∙ a in
+      let there : admitted h' (lengths_of x) s.used k ≡ Some v = same_admission d h r x s.used v k far_long near_long here in
+      let entry' : event_number (form_to d) x.events e₁ ≡ Some k = same_entry d h r h.events e₁ (totals h) (omega (arith, z)) c.long ∙ is in
+      let xs = samples_for i s.used (Some k) in
       let p = event_played e₁ (with_used s v) bs k xs in
       let one-play : step_at i' h' e₁ s bs ≡ p =
       plays e₁ s bs i' h' k v entry' there ∙ ap (event_played e₁ (with_used s v) bs k) (same_handed s.used v k here) in
@@ -130,7 +127,7 @@ module _ (d : Direction) (r g : Recording) (b : OfBytes r) (c : Came d r g) wher
       let s = new_session h.rate h.ceiling in
       let bs = clear_buffers (geometry_of h.rate h.ceiling) in
       ap (started g.events g.far g.near) (given_opens d r g c b.events)
-      ∙ ap (λ (y : Recording). started y.events y.far y.near (start.Opened h')) (sym c.is)
+      ∙ ap (λ (y : Recording). started y.events y.far y.near (Some h')) (sym c.is)
       ∙ ap (λ (ls : List Line). line.Replay h.rate h.ceiling ∷ ls) (same_lines h.events 0 (used_up 0 0) (totals h) c.trace (omega arith) s bs refl)
       ∙ ap (started r.events r.far r.near) (sym c.opens)
 

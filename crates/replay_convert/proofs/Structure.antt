@@ -1,4 +1,5 @@
 -- A log has a line that begins with `bad` exactly if the recording is not whole: admission does not look at samples, and no event that is admitted logs such a line.
+use Rattle.std.specs.Prelude.{Option, Some, None}
 use mathlib.Core.Path.{◌≡◌, refl, ap, ◌∙◌}
 use mathlib.Core.Bool.{Bool, true, false, not, true≢false}
 use mathlib.Core.List.{List, [], ◌∷◌, ◌++◌}
@@ -25,15 +26,9 @@ use Rattle.log_lines.specs.declared.Line.TheVariants as line
 use Rattle.recording.specs.Recording.{opened}
 use Rattle.recording.specs.Samples.{admitted, all_used}
 use Rattle.recording.specs.declared.Header.{Header}
-use Rattle.recording.specs.declared.Start.{Start}
-use Rattle.recording.specs.declared.Start.TheVariants as start
 use Rattle.recording.specs.declared.Used.{Used}
-use Rattle.recording.specs.declared.Admission.{Admission}
-use Rattle.recording.specs.declared.Admission.TheVariants as admission
 use Rattle.recording.specs.declared.Event.{Event}
 use Rattle.recording.specs.declared.Event.TheVariants as event
-use Rattle.recording.specs.declared.Entry.{Entry}
-use Rattle.recording.specs.declared.Entry.TheVariants as entry
 use Rattle.recording_convert.specs.Whole.{Recording, lengths_of, entry_of, used_by, then_whole, whole_from, whole_at, whole_recording}
 use Rattle.replay.specs.Words.{change_lines, cycle_line}
 use Rattle.replay.specs.Events.{Play, with_scan, with_used, after_score, score_played, after_taking, sample_played, continued_by, near_played, cycle_played, seam_played, event_played, after_admission, stepped}
@@ -135,10 +130,10 @@ module _ (r : Recording) (h : Header) where
 
   -- the events behind number e are given
   module _ (left e : ℕ) (s : Session) (b : Buffers) (again : (s₁ : Session) (b₁ : Buffers) → has_bad (lines_from i h left (e + 1) s₁ b₁) ≡ not (whole_from h r left (e + 1) s₁.used)) where
-    admits : (k : Event) (xs : List Float) (a : Admission) → has_bad (onwards left e (after_admission e s b k xs a)) ≡ not (then_whole a (λ (v : Used). whole_from h r left (e + 1) v))
+    admits : (k : Event) (xs : List Float) (a : Option Used) → has_bad (onwards left e (after_admission e s b k xs a)) ≡ not (then_whole a (λ (v : Used). whole_from h r left (e + 1) v))
     unfolding text_of pick
-    admits k xs admission.Lacking = refl
-    admits k xs (admission.Enough v) =
+    admits k xs None = refl
+    admits k xs (Some v) =
         let p = event_played e (with_used s v) b k xs in
         let good = event_good e (with_used s v) b k xs in
         joined p.lines _ good.0
@@ -146,20 +141,20 @@ module _ (r : Recording) (h : Header) where
         ∙ again p.session p.buffers
         ∙ ap (λ (u : Used). not (whole_from h r left (e + 1) u)) good.1
 
-    entries : (k : Entry) → has_bad (onwards left e (stepped h i.lengths e s b k (samples_for i s.used k))) ≡ not (then_whole (used_by h r s.used k) (λ (v : Used). whole_from h r left (e + 1) v))
+    entries : (k : Option Event) → has_bad (onwards left e (stepped h i.lengths e s b k (samples_for i s.used k))) ≡ not (then_whole (used_by h r s.used k) (λ (v : Used). whole_from h r left (e + 1) v))
     unfolding stepped text_of pick
-    entries entry.Bad = refl
-    entries (entry.Good k) = admits k (samples_for i s.used (entry.Good k)) (admitted h (lengths_of r) s.used k)
+    entries None = refl
+    entries (Some k) = admits k (samples_for i s.used (Some k)) (admitted h (lengths_of r) s.used k)
 
   pub bad_from : (left e : ℕ) (s : Session) (b : Buffers) → has_bad (lines_from i h left e s b) ≡ not (whole_from h r left e s.used)
   unfolding lines_from whole_from closing
   bad_from zero e s b = closes s (all_used h s.used)
   bad_from (suc left) e s b = entries left e s b (bad_from left (e + 1)) (entry_of h.form r e)
 
-start_bad : (r : Recording) (o : Start) → has_bad (started r.events r.far r.near o) ≡ not (whole_at r o)
+start_bad : (r : Recording) (o : Option Header) → has_bad (started r.events r.far r.near o) ≡ not (whole_at r o)
 unfolding text_of pick new_session
-start_bad r start.BadHeader = refl
-start_bad r (start.Opened h) = bad_from r h h.events 0 (new_session h.rate h.ceiling) _
+start_bad r None = refl
+start_bad r (Some h) = bad_from r h h.events 0 (new_session h.rate h.ceiling) _
 
 -- The log of a recording has a line that begins with `bad` exactly if the recording is not whole.
 pub bad_by_structure : (r : Recording) → has_bad (log_of r.events r.far r.near) ≡ not (whole_recording r)

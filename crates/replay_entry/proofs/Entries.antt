@@ -1,4 +1,6 @@
 -- What an entry's turn comes to, kind by kind.
+use Rattle.std.specs.Prelude.{Option, Some, None}
+use Rattle.recording.specs.declared.Used.{Used}
 use Prim.Native.Nat.{ℕ, zero, suc, ◌+◌, ◌≤◌}
 use mathlib.Core.Path.{◌≡◌, refl, ap, ◌∙◌}
 use mathlib.Core.Bool.{true, false}
@@ -17,9 +19,7 @@ use Rattle.log_lines.specs.declared.Line.TheVariants as line
 use Rattle.recording.specs.Samples.{bytes_of, samples_in, used_up, admitted}
 use Rattle.recording.specs.declared.Form.{Form}
 use Rattle.recording.specs.declared.Header.{Header}
-use Rattle.recording.specs.declared.Admission.{Admission}
 use Rattle.recording.specs.declared.Event.TheVariants as event
-use Rattle.recording.specs.declared.Entry.TheVariants as entry
 use Rattle.tracker.specs.Tracker.{seamed}
 use Rattle.tracker.specs.Cycle.{cycled}
 use Rattle.tracker.specs.declared.Outcome.{Outcome}
@@ -50,7 +50,7 @@ module _ (h : Header) (n : ℕ) (s : Session) (b : Buffers) (hand : Hand) where
   abbrev bad : Next
   bad = next n Closed s b (Says (line.BadEvent n)) (bytes_used 0 0 0)
 
-  pub bad_is : entry_turn h n s b hand entry.Bad ≡ bad
+  pub bad_is : entry_turn h n s b hand None ≡ bad
   unfolding entry_turn stepped pick
   bad_is = refl
 
@@ -58,12 +58,12 @@ module _ (h : Header) (n : ℕ) (s : Session) (b : Buffers) (hand : Hand) where
 
   module _ (count : ℕ) where
     abbrev far_entry : Next
-    far_entry = entry_turn h n s b hand (entry.Good (event.Far count))
+    far_entry = entry_turn h n s b hand (Some (event.Far count))
 
     abbrev push : FarPush
     push = pushed_far full_slack s.scan b.envelope (samples_in h.form hand.far.bytes count)
 
-    abbrev far : Admission → Next
+    abbrev far : Option Used → Next
     far a = entered h.form n s (FarSamples count) (after_admission n s b (event.Far count) (samples_in h.form hand.far.bytes count) a)
 
     pub far_awaited : supply_of h.form s.used.far h.far count hand.far ≡ supply.Awaited → far_entry ≡ waits n Events s b FarSide
@@ -87,9 +87,9 @@ module _ (h : Header) (n : ℕ) (s : Session) (b : Buffers) (hand : Hand) where
 
   module _ (count first : ℕ) where
     abbrev near_entry : Next
-    near_entry = entry_turn h n s b hand (entry.Good (event.Near count first))
+    near_entry = entry_turn h n s b hand (Some (event.Near count first))
 
-    abbrev near : Admission → Next
+    abbrev near : Option Used → Next
     near a = entered h.form n s (NearSamples count first) (after_admission n s b (event.Near count first) (handed h.form hand (NearSamples count first)) a)
 
     pub near_awaited : supply_of h.form s.used.near h.near count hand.near ≡ supply.Awaited → near_entry ≡ waits n Events s b NearSide
@@ -114,11 +114,11 @@ module _ (h : Header) (n : ℕ) (s : Session) (b : Buffers) (hand : Hand) where
   abbrev cleared : Clearing → Next
   cleared p = next (n + 1) Events (with_scan (with_used s s.used) p.changed.scan) (with_lag_sums b p.lag_sums) (told (change_lines n p.changed.answer)) (bytes_used 16 0 0)
 
-  pub rearm_is : entry_turn h n s b hand (entry.Good event.Rearm) ≡ cleared (rearmed s.scan b.lag_sums)
+  pub rearm_is : entry_turn h n s b hand (Some event.Rearm) ≡ cleared (rearmed s.scan b.lag_sums)
   unfolding entry_turn stepped admitted event_played pick
   rearm_is = refl
 
-  pub discard_is : entry_turn h n s b hand (entry.Good event.DiscardNear) ≡ cleared (discarded s.scan b.lag_sums)
+  pub discard_is : entry_turn h n s b hand (Some event.DiscardNear) ≡ cleared (discarded s.scan b.lag_sums)
   unfolding entry_turn stepped admitted event_played pick
   discard_is = refl
 
@@ -127,19 +127,19 @@ module _ (h : Header) (n : ℕ) (s : Session) (b : Buffers) (hand : Hand) where
       let c = cycled s.tracker alignment o in
       next (n + 1) Events (with_tracker (with_used s s.used) c.tracker (cycles_after s.cycles c.verdict)) b (Says (cycle_line n s.cycles c.verdict)) (bytes_used 16 0 0)
 
-  pub unconfident_is : entry_turn h n s b hand (entry.Good event.Unconfident) ≡ cycles (samples 0) outcome.Unconfident
+  pub unconfident_is : entry_turn h n s b hand (Some event.Unconfident) ≡ cycles (samples 0) outcome.Unconfident
   unfolding entry_turn stepped admitted event_played cycle_played pick
   unconfident_is = refl
 
-  pub interior_is : (alignment delay : ℕ) → entry_turn h n s b hand (entry.Good (event.Interior alignment delay)) ≡ cycles (samples alignment) (outcome.Candidate (samples delay) true)
+  pub interior_is : (alignment delay : ℕ) → entry_turn h n s b hand (Some (event.Interior alignment delay)) ≡ cycles (samples alignment) (outcome.Candidate (samples delay) true)
   unfolding entry_turn stepped admitted event_played cycle_played pick
   interior_is alignment delay = refl
 
-  pub edge_is : (alignment delay : ℕ) → entry_turn h n s b hand (entry.Good (event.Edge alignment delay)) ≡ cycles (samples alignment) (outcome.Candidate (samples delay) false)
+  pub edge_is : (alignment delay : ℕ) → entry_turn h n s b hand (Some (event.Edge alignment delay)) ≡ cycles (samples alignment) (outcome.Candidate (samples delay) false)
   unfolding entry_turn stepped admitted event_played cycle_played pick
   edge_is alignment delay = refl
 
-  pub seam_is : entry_turn h n s b hand (entry.Good event.Discontinuity)
+  pub seam_is : entry_turn h n s b hand (Some event.Discontinuity)
       ≡ next (n + 1) Events (with_tracker (with_used s s.used) (seamed s.tracker).tracker s.cycles) b (told (change_lines n (seamed s.tracker).answer)) (bytes_used 16 0 0)
   unfolding entry_turn stepped admitted event_played seam_played pick
   seam_is = refl

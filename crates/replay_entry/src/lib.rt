@@ -3,7 +3,7 @@
 
 pub mod supplies; // whether an event's samples are at hand
 
-ghost use Rattle.std.specs.Prelude.{◌≡◌, List, ℕ, ◌+◌, ◌-◌, ◌*◌, ◌^◌, ◌≤◌, ◌<◌, Float, length};
+ghost use Rattle.std.specs.Prelude.{◌≡◌, List, ℕ, ◌+◌, ◌-◌, ◌*◌, ◌^◌, ◌≤◌, ◌<◌, Float, length, Some};
 ghost use Rattle.scan.specs.Bins.{full_slack};
 ghost use Rattle.scan.specs.State.{Buffers};
 ghost use Rattle.scan.specs.Calls.{pushed_far};
@@ -11,7 +11,6 @@ ghost use Rattle.recording.specs.Samples.{bytes_of, samples_in, used_up};
 ghost use Rattle.scan.specs.Steps.{with_envelope};
 ghost use Rattle.scan_score.specs.Observing.{lent};
 ghost use Rattle.log_lines.specs.declared.Line.TheVariants as line;
-ghost use Rattle.recording.specs.declared.Entry.TheVariants as entry;
 ghost use Rattle.recording.specs.declared.Event.TheVariants as event;
 ghost use Rattle.tracker.specs.Tracker.{seamed};
 ghost use Rattle.tracker.specs.Cycle.{cycled};
@@ -26,7 +25,7 @@ ghost use Rattle.replay_entry.specs.Supplies.{next_entry};
 
 use answers::Change;
 use log_lines::Line;
-use recording::{Entry, Event, Form, Header, Used};
+use recording::{Event, Form, Header, Used};
 use replay::{Session, events, words};
 use replay_stream::{Answer, Bytes, Ended, Input, Place, Stage, Turned};
 use scan::{Changed, Scan};
@@ -203,7 +202,7 @@ fn far_turn(
     envelope: &mut [f32],
 ) -> Turned
     requires { (number < 2 ^ 32 - 1) × (count ≤ 4096) × Holds far.now samples.old }
-    ensures { (b : Buffers) (events near : Piece) → gives result (with_envelope b envelope.new) ≡ entry_turn header number session (with_envelope b envelope.old) (record { events = events; far = piece far.now ended; near = near }) (entry.Good (event.Far count)) }
+    ensures { (b : Buffers) (events near : Piece) → gives result (with_envelope b envelope.new) ≡ entry_turn header number session (with_envelope b envelope.old) (record { events = events; far = piece far.now ended; near = near }) (Some (event.Far count)) }
 {
     let form = header.form;
     let s = supplies::of(form, session.used.far, header.far, count, far, ended);
@@ -254,7 +253,7 @@ fn near_turn(
     ended: bool,
 ) -> Turned
     requires { (number < 2 ^ 32 - 1) × (count ≤ 4096) }
-    ensures { (b : Buffers) (events far : Piece) → gives result b ≡ entry_turn header number session b (record { events = events; far = far; near = piece near.now ended }) (entry.Good (event.Near count first)) }
+    ensures { (b : Buffers) (events far : Piece) → gives result b ≡ entry_turn header number session b (record { events = events; far = far; near = piece near.now ended }) (Some (event.Near count first)) }
 {
     let form = header.form;
     let s = supplies::of(form, session.used.near, header.near, count, near, ended);
@@ -279,8 +278,8 @@ fn play(
     envelope: &mut [f32],
     lag_sums: &mut [f64],
 ) -> Turned
-    requires { (number < 2 ^ 32 - 1) × Few (need_of (entry.Good event)) × Holds far.now samples.old }
-    ensures { (events : List ℕ) (l w p q c : List Float) → gives result (lent envelope.new l w p q c lag_sums.new) ≡ entry_turn header number session (lent envelope.old l w p q c lag_sums.old) (hand_of events far.now near.now ended) (entry.Good event) }
+    requires { (number < 2 ^ 32 - 1) × Few (need_of (Some event)) × Holds far.now samples.old }
+    ensures { (events : List ℕ) (l w p q c : List Float) → gives result (lent envelope.new l w p q c lag_sums.new) ≡ entry_turn header number session (lent envelope.old l w p q c lag_sums.old) (hand_of events far.now near.now ended) (Some event) }
 {
     let before = session.scan;
     let used = session.used;
@@ -349,8 +348,8 @@ pub fn entry_turn(
     }
     let entry = recording::event_at(events, 0);
     match entry {
-        Entry::Bad => bad(number, session),
-        Entry::Good(event) => play(
+        None => bad(number, session),
+        Some(event) => play(
             header, number, session, event, far, near, ended, samples, envelope, lag_sums,
         ),
     }

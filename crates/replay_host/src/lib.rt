@@ -8,7 +8,7 @@ ghost use Rattle.replay_sink.specs.Sink.{Fits, FitsAny};
 
 use pipes::rooms;
 use pipes::told::Watch;
-use recording::{Header, Start};
+use recording::Header;
 use replay_close::Outcome;
 use replay_inputs::{Files, Inputs, Most};
 use replay_sink::{Goal, Sink};
@@ -169,8 +169,8 @@ fn run_in(
         return Outcome::Unread(1, head.reason);
     }
     match recording_head::opened(head, room) {
-        Start::BadHeader => replay_close::unopened(out, sink, watched, log, room),
-        Start::Opened(header) => opened(
+        None => replay_close::unopened(out, sink, watched, log, room),
+        Some(header) => opened(
             out,
             header,
             replay_inputs::announced(header, most),

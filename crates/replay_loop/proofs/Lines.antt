@@ -1,4 +1,5 @@
 -- The lines that the loop is told are the log of the bytes that it read.
+use Rattle.std.specs.Prelude.{Some}
 use Prim.Native.Nat.{ℕ}
 use mathlib.Core.Path.{◌≡◌, refl, sym, ap, subst, ◌∙◌}
 use mathlib.Core.Bool.{true, false, true≢false, false≢true}
@@ -8,7 +9,6 @@ use Rattle.scan.specs.State.{Buffers}
 use Rattle.log_lines.specs.declared.Line.{Line}
 use Rattle.recording.specs.Recording.{offset_of, opened, header_length}
 use Rattle.recording.specs.declared.Header.{Header}
-use Rattle.recording.specs.declared.Start.TheVariants as start
 use Rattle.replay.specs.Beginning.{beginning, beginning_of}
 use Rattle.replay.specs.Log.{log_of}
 use Rattle.replay.specs.declared.Session.{Session}
@@ -90,7 +90,7 @@ module _ (events far near : List ℕ) where
 
 -- A loop that has begun as a host begins, and has come to the end of the log, was told the log of the recording: of the bytes at hand at first, those that came, and those that were left unread.
 pub log_told : (events far near : List ℕ) {h : Header} {s u : Stream} {cleared d : Buffers} {e f n room e' f' n' room' : List ℕ} {x : Rest} {y : List ℕ} {ls : List Line} (first : Piece) (lent : Buffers) (session : Session) (l : Rest)
-    → Front events first → short (header_length first.bytes) first ≡ false → opened first.bytes ≡ start.Opened h → beginning (begun.Ready session) cleared ≡ beginning_of h lent → s.place ≡ opens session → s.over ≡ false
+    → Front events first → short (header_length first.bytes) first ≡ false → opened first.bytes ≡ Some h → beginning (begun.Ready session) cleared ≡ beginning_of h lent → s.place ≡ opens session → s.over ≡ false
     → Turns h s cleared e f n room x y ls u d e' f' n' room' → Fairly u.inputs l → rest_at s.inputs e f n (behind x l) ≡ rest (drop (offset_of h.form) events) far near → u.over ≡ true → ls ≡ log_of events far near
 log_told events far near {h = h} {s = s} {cleared = cleared} {e = e} {f = f} {n = n} {x = x} {ls = ls} first lent session l front enough header ready place starts turns fair whole ends =
     let q = header_handed events first front enough ∙ header in

@@ -1,4 +1,5 @@
 -- The verdict of the loop on a log is `checked` of the bytes that it read.
+use Rattle.std.specs.Prelude.{Some}
 use Prim.Native.Nat.{ℕ, ◌+◌, ◌-◌, ◌^◌, ◌≤◌, ◌<◌}
 use native.Mathlib.Omega.{arith}
 use mathlib.Core.Path.{◌≡◌, refl, sym, ap, subst, ◌∙◌}
@@ -36,7 +37,6 @@ use Rattle.log_check.specs.Checking as host
 use Rattle.log_check.proofs.Verdicts.{checked_is}
 use Rattle.recording.specs.Recording.{offset_of, opened, header_length}
 use Rattle.recording.specs.declared.Header.{Header}
-use Rattle.recording.specs.declared.Start.TheVariants as start
 use Rattle.replay.specs.Beginning.{beginning, beginning_of}
 use Rattle.replay.specs.declared.Session.{Session}
 use Rattle.replay.specs.declared.Begun.TheVariants as begun
@@ -305,7 +305,7 @@ module _ (events far near : List ℕ) where
 -- A loop that has begun as a host begins, and found something of a log, found what `checked` says of it: of the bytes at hand at first, those that came, and those that were left unread.
 pub verdict_checked : (events far near log : List ℕ) {h : Header} {s u : Stream} {cleared d : Buffers} {e f n room e' f' n' room' : List ℕ} {x : Rest} {y : List ℕ} {ls : List Line} (first : Piece) (lent : Buffers) (session : Session) (l : Rest)
     (z : List ℕ) (v : Apart) (c c'' : Check) (room'' : List ℕ)
-    → Front events first → short (header_length first.bytes) first ≡ false → opened first.bytes ≡ start.Opened h → beginning (begun.Ready session) cleared ≡ beginning_of h lent → s.place ≡ opens session → s.over ≡ false
+    → Front events first → short (header_length first.bytes) first ≡ false → opened first.bytes ≡ Some h → beginning (begun.Ready session) cleared ≡ beginning_of h lent → s.place ≡ opens session → s.over ≡ false
     → s.sink ≡ Checks c → c.line ≡ 1 → c.verdict ≡ verdict.Going → Turns h s cleared e f n room x y ls u d e' f' n' room' → (fin : Finished u.over u.sink room' (Checks c'') room'')
     → Fairly u.inputs l → (over c''.log ≡ true → z ≡ []) → rest_at s.inputs e f n (behind x l) ≡ rest (drop (offset_of h.form) events) far near
     → at_hand c.log room ++ (y ++ (end_by u.over u.sink room' c'' room'' fin ++ z)) ≡ log

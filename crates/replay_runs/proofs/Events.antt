@@ -1,4 +1,5 @@
 -- The events of the loop: none, a far one, a near one, and one behind the other.
+use Rattle.std.specs.Prelude.{Some}
 use Prim.Native.Nat.{ℕ, zero, suc, ◌+◌, ◌-◌, ◌^◌, ◌≤◌, ◌<◌}
 use mathlib.Core.Path.{◌≡◌, refl, sym, ap, ◌∙◌, subst}
 use mathlib.Core.Bool.{Bool, true, false, false≢true}
@@ -29,7 +30,6 @@ use Rattle.recording.specs.Samples.{width, bytes_of, samples_in, used_up}
 use Rattle.recording.specs.declared.Header.{Header}
 use Rattle.recording.specs.declared.Event.{Event}
 use Rattle.recording.specs.declared.Event.TheVariants as event
-use Rattle.recording.specs.declared.Entry.TheVariants as entry
 use Rattle.recording.proofs.Forms.{bytes_mono}
 use Rattle.replay.specs.Words.{change_lines}
 use Rattle.replay.specs.Events.{with_scan, with_used}
@@ -99,10 +99,10 @@ nearer h s ev fr nr at e l r e' l' false z p = omega (arith, p.follows.forward.l
 -- ---- an event
 
 -- its 16 bytes are there
-behind_it : (ev : List ℕ) (i : ℕ) (k : Event) → i ≤ length ev → event_at ev i ≡ entry.Good k → event_at (drop i ev) 0 ≡ entry.Good k
+behind_it : (ev : List ℕ) (i : ℕ) (k : Event) → i ≤ length ev → event_at ev i ≡ Some k → event_at (drop i ev) 0 ≡ Some k
 behind_it ev i k m q = sym (entry_here ev i (drop i ev) (record { at = refl; most = m })) ∙ q
 
-pub entry_there : (ev : List ℕ) (i : ℕ) (k : Event) → i ≤ length ev → event_at ev i ≡ entry.Good k → i + 16 ≤ length ev
+pub entry_there : (ev : List ℕ) (i : ℕ) (k : Event) → i ≤ length ev → event_at ev i ≡ Some k → i + 16 ≤ length ev
 entry_there ev i k m q = omega (arith, good_whole (drop i ev) k (behind_it ev i k m q), length-drop i ev, m)
 
 module _ (h : Header) (s : Session) (ev fr nr : List ℕ) (at : Silence) (e l : List Float) (c : Calm s at) where
@@ -133,7 +133,7 @@ module _ (h : Header) (s : Session) (ev fr nr : List ℕ) (at : Silence) (e l : 
   place_alike : (hand : Hand) (v : Bytes) (p p' : Place) (b : Buffers) → p ≡ p' → from hand v p b ≡ from hand v p' b
   place_alike hand v p p' b q = ap (λ (x : Place). from hand v x b) q
 
-  good : (k : Event) → Before h ev fr nr at k → event_at (drop u.events ev) 0 ≡ entry.Good k
+  good : (k : Event) → Before h ev fr nr at k → event_at (drop u.events ev) 0 ≡ Some k
   good k bef = behind_it ev u.events k bef.inside.events bef.entry
 
   there_16 : (k : Event) → Before h ev fr nr at k → u.events + 16 ≤ length ev

@@ -1,4 +1,5 @@
 -- One turn that says nothing, from where the loop stands; and a near event whose first samples were taken before: what is left of it answers the same.
+use Rattle.std.specs.Prelude.{Some}
 use Prim.Native.Nat.{ℕ, ◌+◌, ◌-◌, ◌^◌, ◌≤◌, ◌<◌, min}
 use mathlib.Core.Path.{◌≡◌, refl, sym, ap, ◌∙◌, subst}
 use mathlib.Core.Bool.{Bool, true, false, not}
@@ -20,7 +21,6 @@ use Rattle.recording.specs.declared.Form.{Form}
 use Rattle.recording.specs.declared.Form.TheVariants.{Plain, Floats, Shorts}
 use Rattle.recording.specs.declared.Header.{Header}
 use Rattle.recording.specs.declared.Event.{Event}
-use Rattle.recording.specs.declared.Entry.TheVariants as entry
 use Rattle.recording.proofs.Forms.{bytes_mono}
 use Rattle.replay.specs.Events.{with_scan}
 use Rattle.replay.specs.declared.Session.{Session}
@@ -79,8 +79,8 @@ unfolding pick
 never_short n true m l = refl
 never_short n false m l = le-ltb m n l
 
-module _ (h : Header) (n : ℕ) (s : Session) (b : Buffers) (hand : Hand) (k : Event) (some : n < h.events) (good : event_at hand.events.bytes 0 ≡ entry.Good k) where
-  pub entry_turn_lem : turn h (at n s) b hand ≡ entry_turn h n s b hand (entry.Good k)
+module _ (h : Header) (n : ℕ) (s : Session) (b : Buffers) (hand : Hand) (k : Event) (some : n < h.events) (good : event_at hand.events.bytes 0 ≡ Some k) where
+  pub entry_turn_lem : turn h (at n s) b hand ≡ entry_turn h n s b hand (Some k)
   unfolding turn
   entry_turn_lem =
       pick_true _ _ _ (lt-ltb n h.events some)

@@ -1,4 +1,6 @@
 -- A turn uses no more bytes than are at hand, wherever the stream stands.
+use Rattle.std.specs.Prelude.{Option, Some, None}
+use Rattle.recording.specs.declared.Used.{Used}
 use Prim.Native.Nat.{ℕ, ◌-◌, ◌≤◌, min}
 use mathlib.Core.Path.{◌≡◌, refl}
 use mathlib.Core.Bool.{true, true≢false}
@@ -11,11 +13,7 @@ use Rattle.scan.specs.State.{Buffers}
 use Rattle.recording.specs.Recording.{event_at}
 use Rattle.recording.specs.Samples.{bytes_of, samples_in, admitted}
 use Rattle.recording.specs.declared.Header.{Header}
-use Rattle.recording.specs.declared.Admission.{Admission}
-use Rattle.recording.specs.declared.Admission.TheVariants as admission
 use Rattle.recording.specs.declared.Event.{Event}
-use Rattle.recording.specs.declared.Entry.{Entry}
-use Rattle.recording.specs.declared.Entry.TheVariants as entry
 use Rattle.replay.specs.Events.{after_admission, stepped}
 use Rattle.replay.specs.declared.Session.{Session}
 use Rattle.replay_stream.specs.Stream.{Hand, short, Next, near_cut, near_turn, Need, NoSamples, FarSamples, NearSamples, need_of, awaits, handed, used_for, seen, entered, entry_turn, turn_at, turn}
@@ -41,24 +39,24 @@ module _ (h : Header) (hand : Hand) where
   need_within (NearSamples count first) m f = record { events = m; far = omega arith; near = omega arith }
 
   -- a play that ends uses nothing, and one that goes on was admitted
-  event_within : (n : ℕ) (s : Session) (b : Buffers) (k : Event) → 16 ≤ length hand.events.bytes → (a : Admission) → admitted h (seen h.form s.used hand) s.used k ≡ a
-      → W (entered h.form n s (need_of (entry.Good k)) (after_admission n s b k (handed h.form hand (need_of (entry.Good k))) a))
-  event_within n s b k m admission.Lacking q =
+  event_within : (n : ℕ) (s : Session) (b : Buffers) (k : Event) → 16 ≤ length hand.events.bytes → (a : Option Used) → admitted h (seen h.form s.used hand) s.used k ≡ a
+      → W (entered h.form n s (need_of (Some k)) (after_admission n s b k (handed h.form hand (need_of (Some k))) a))
+  event_within n s b k m None q =
       pick_case W true _ _ (λ t. record { events = omega arith; far = omega arith; near = omega arith }) (λ t. absurd (true≢false t))
-  event_within n s b k m (admission.Enough u) q =
-      let p = after_admission n s b k (handed h.form hand (need_of (entry.Good k))) (admission.Enough u) in
+  event_within n s b k m (Some u) q =
+      let p = after_admission n s b k (handed h.form hand (need_of (Some k))) (Some u) in
       pick_case W p.ends _ _
       (λ t. record { events = omega arith; far = omega arith; near = omega arith })
-      (λ t. need_within (need_of (entry.Good k)) m (taken n h s.used u hand k q).far_there)
+      (λ t. need_within (need_of (Some k)) m (taken n h s.used u hand k q).far_there)
 
-  entry_within : (n : ℕ) (s : Session) (b : Buffers) (k : Entry) → ((j : Event) → k ≡ entry.Good j → 16 ≤ length hand.events.bytes) → W (entry_turn h n s b hand k)
+  entry_within : (n : ℕ) (s : Session) (b : Buffers) (k : Option Event) → ((j : Event) → k ≡ Some j → 16 ≤ length hand.events.bytes) → W (entry_turn h n s b hand k)
   unfolding entry_turn stepped
-  entry_within n s b entry.Bad m =
-      pick_case W (awaits h s.used hand (need_of entry.Bad)) _ _
+  entry_within n s b None m =
+      pick_case W (awaits h s.used hand (need_of None)) _ _
       (λ w. record { events = omega arith; far = omega arith; near = omega arith })
       (λ w. pick_case W true _ _ (λ t. record { events = omega arith; far = omega arith; near = omega arith }) (λ t. absurd (true≢false t)))
-  entry_within n s b (entry.Good k) m =
-      pick_case W (awaits h s.used hand (need_of (entry.Good k))) _ _
+  entry_within n s b (Some k) m =
+      pick_case W (awaits h s.used hand (need_of (Some k))) _ _
       (λ w. record { events = omega arith; far = omega arith; near = omega arith })
       (λ w. event_within n s b k (m k refl) (admitted h (seen h.form s.used hand) s.used k) refl)
 

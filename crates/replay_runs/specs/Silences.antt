@@ -1,5 +1,5 @@
 -- Events that say nothing, one after the other: where the loop stands, and what holds behind each of them. What is answered is that of Stream.
-use Rattle.std.specs.Prelude.{ℕ, ◌+◌, ◌-◌, ◌^◌, ◌≤◌, ◌<◌, min, ◌≡◌, true, false, List, eqb, Float, length}
+use Rattle.std.specs.Prelude.{ℕ, ◌+◌, ◌-◌, ◌^◌, ◌≤◌, ◌<◌, min, ◌≡◌, true, false, List, eqb, Float, length, Some}
 use Rattle.std.specs.Float.Ieee.Scale.{finite}
 use Rattle.answers.specs.Pick.{both}
 use Rattle.scan.specs.Bins.{full_slack, envelope_len, near_len}
@@ -14,7 +14,6 @@ use Rattle.recording.specs.Samples.{bytes_of, used_up}
 use Rattle.recording.specs.declared.Form.{Form}
 use Rattle.recording.specs.declared.Header.{Header}
 use Rattle.recording.specs.declared.Event.{Event}
-use Rattle.recording.specs.declared.Entry.TheVariants as entry
 use Rattle.replay.specs.declared.Session.{Session}
 use Rattle.replay_stream.specs.Stream.{Hand, bytes_used, beyond, Next, midway, silent, on_top, next_line, to_go}
 use Rattle.replay_stream.specs.Giving.{hand_of, gives}
@@ -76,7 +75,7 @@ pub record Plays (h : Header) (s : Session) (events far near : List ℕ) (at : S
 -- the loop stands before this event
 pub record Before (h : Header) (events far near : List ℕ) (at : Silence) (k : Event) : Type 0 where
   pub some : at.number < h.events
-  pub entry : event_at events at.bytes.events ≡ entry.Good k
+  pub entry : event_at events at.bytes.events ≡ Some k
   pub inside : Inside events far near at.bytes
 
 -- the samples of an event are admitted and at hand, and there is room for them

@@ -6,16 +6,15 @@ pub mod start; // where the loop begins, and where it ends
 pub mod far; // a far event
 pub mod near; // a near event
 
-ghost use Rattle.std.specs.Prelude.{◌≡◌, true, List, ℕ, ◌+◌, ◌-◌, ◌^◌, ◌≤◌, ◌<◌, length};
+ghost use Rattle.std.specs.Prelude.{◌≡◌, true, List, ℕ, ◌+◌, ◌-◌, ◌^◌, ◌≤◌, ◌<◌, length, Some};
 ghost use Rattle.scan.specs.Bins.{full_slack, envelope_len, near_len};
 ghost use Rattle.scan.specs.State.{due};
 ghost use Rattle.scan_score.specs.Observing.{lent};
-ghost use Rattle.recording.specs.declared.Entry.TheVariants as entry;
 ghost use Rattle.replay_near.specs.Telling.{Holds};
 ghost use Rattle.replay_stream.specs.Stream.{Few, need_of};
 ghost use Rattle.replay_runs.specs.Silences.{Calm, Inside, Before, Follows, Plays, Advances, Starts, halted};
 
-use recording::{Entry, Event, Header, Used};
+use recording::{Event, Header, Used};
 use replay::Session;
 use replay_stream::{Bytes, Ended, Place, Turned};
 use scan::{Far, Near};
@@ -73,8 +72,8 @@ fn event(
     let e = at.bytes.events;
     let entry = recording::event_at(events, e);
     match entry {
-        Entry::Bad => halt(at),
-        Entry::Good(event) => play(
+        None => halt(at),
+        Some(event) => play(
             header, session, at, event, far, near, samples, envelope, levels,
         ),
     }
@@ -91,7 +90,7 @@ fn play(
     envelope: &mut [f32],
     levels: &mut [f32],
 ) -> Silence
-    requires { Calm session at × (at.number < 2 ^ 32 - 1) × (at.bytes.events + 16 < 2 ^ 64) × (at.bytes.far ≤ length far.now) × (at.bytes.near ≤ length near.now) × Few (need_of (entry.Good event)) × (length envelope.old ≡ envelope_len full_slack (due session.scan)) × (length levels.old ≡ near_len (due session.scan)) × Holds far.now samples.old × Holds near.now samples.old }
+    requires { Calm session at × (at.number < 2 ^ 32 - 1) × (at.bytes.events + 16 < 2 ^ 64) × (at.bytes.far ≤ length far.now) × (at.bytes.near ≤ length near.now) × Few (need_of (Some event)) × (length envelope.old ≡ envelope_len full_slack (due session.scan)) × (length levels.old ≡ near_len (due session.scan)) × Holds far.now samples.old × Holds near.now samples.old }
     ensures { (events : List ℕ) → Before header events far.now near.now at event → Plays header session events far.now near.now at envelope.old levels.old result envelope.new levels.new }
 {
     match event {

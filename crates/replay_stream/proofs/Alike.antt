@@ -1,4 +1,5 @@
 -- What is answered does not depend on how the bytes come in: where it is a line or the end, it is what all that is left gives, to the last bit of the place and the buffers.
+use Rattle.std.specs.Prelude.{Option, Some, None}
 use Prim.Native.Nat.{ℕ, zero, suc, ◌+◌, ◌-◌, ◌*◌, min}
 use mathlib.Core.Path.{◌≡◌, refl, sym, ap, ◌∙◌}
 use mathlib.Core.Bool.{Bool, true, false, false≢true}
@@ -15,11 +16,7 @@ use Rattle.recording.specs.Samples.{bytes_of, admitted}
 use Rattle.recording.specs.declared.Form.{Form}
 use Rattle.recording.specs.declared.Header.{Header}
 use Rattle.recording.specs.declared.Used.{Used}
-use Rattle.recording.specs.declared.Admission.{Admission}
-use Rattle.recording.specs.declared.Admission.TheVariants as admission
 use Rattle.recording.specs.declared.Event.{Event}
-use Rattle.recording.specs.declared.Entry.{Entry}
-use Rattle.recording.specs.declared.Entry.TheVariants as entry
 use Rattle.recording.proofs.Forms.{bytes_mono}
 use Rattle.replay.specs.Events.{Play, after_admission, stepped}
 use Rattle.replay.specs.Log.{closing}
@@ -70,25 +67,25 @@ module _ (events far near : List ℕ) (h : Header) where
     same_handed u (FarSamples count) t = sym (samples_handed r.far hand.far fair.far h.form count t.far_there)
     same_handed u (NearSamples count first) t = refl
 
-    same_play : (k : Event) (a : Admission) → admitted h (seen h.form s.used hand) s.used k ≡ a
-        → after_admission n s b k (handed h.form hand (need_of (entry.Good k))) a ≡ after_admission n s b k (handed h.form (whole_hand r) (need_of (entry.Good k))) a
-    same_play k admission.Lacking q = refl
-    same_play k (admission.Enough u) q = ap (λ (xs : List Float). after_admission n s b k xs (admission.Enough u)) (same_handed u (need_of (entry.Good k)) (taken n h s.used u hand k q))
+    same_play : (k : Event) (a : Option Used) → admitted h (seen h.form s.used hand) s.used k ≡ a
+        → after_admission n s b k (handed h.form hand (need_of (Some k))) a ≡ after_admission n s b k (handed h.form (whole_hand r) (need_of (Some k))) a
+    same_play k None q = refl
+    same_play k (Some u) q = ap (λ (xs : List Float). after_admission n s b k xs (Some u)) (same_handed u (need_of (Some k)) (taken n h s.used u hand k q))
 
-    abbrev steps : Hand → Entry → Play
+    abbrev steps : Hand → Option Event → Play
     steps g k = stepped h (seen h.form s.used g) n s b k (handed h.form g (need_of k))
 
-    same_step : (k : Entry) → awaits h s.used hand (need_of k) ≡ false → steps hand k ≡ steps (whole_hand r) k
+    same_step : (k : Option Event) → awaits h s.used hand (need_of k) ≡ false → steps hand k ≡ steps (whole_hand r) k
     unfolding stepped
-    same_step entry.Bad f = refl
-    same_step (entry.Good k) f =
-        let need = need_of (entry.Good k) in
+    same_step None f = refl
+    same_step (Some k) f =
+        let need = need_of (Some k) in
         let one = same_admission h far near s.used r hand st.fars near_at fair k f in
         let two = same_admission h far near s.used r (whole_hand r) st.fars near_at (whole_fair r) k (none_awaited h s.used r need) in
         same_play k (admitted h (seen h.form s.used hand) s.used k) refl
         ∙ ap (after_admission n s b k (handed h.form (whole_hand r) need)) (one ∙ sym two)
 
-    same_entry : (k : Entry) → Settled (entry_turn h n s b hand k).answer → entry_turn h n s b hand k ≡ entry_turn h n s b (whole_hand r) k
+    same_entry : (k : Option Event) → Settled (entry_turn h n s b hand k).answer → entry_turn h n s b hand k ≡ entry_turn h n s b (whole_hand r) k
     unfolding entry_turn
     same_entry k =
         pick_case (λ (t : Next). Settled t.answer → t ≡ entry_turn h n s b (whole_hand r) k) (awaits h s.used hand (need_of k)) _ _

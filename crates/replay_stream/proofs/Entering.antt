@@ -1,4 +1,5 @@
 -- An event played from the bytes at hand is the event of the whole recording.
+use Rattle.std.specs.Prelude.{Option, Some, None}
 use Prim.Native.Nat.{ℕ, zero, suc, ◌+◌, ◌-◌, ◌*◌, ◌≤◌, ◌<◌}
 use mathlib.Core.Path.{◌≡◌, refl, sym, ap, ◌∙◌, subst}
 use mathlib.Core.Bool.{Bool, true, false}
@@ -18,12 +19,8 @@ use Rattle.recording.specs.Samples.{bytes_of, samples_in, samples_of, part, supp
 use Rattle.recording.specs.declared.Form.{Form}
 use Rattle.recording.specs.declared.Header.{Header}
 use Rattle.recording.specs.declared.Used.{Used}
-use Rattle.recording.specs.declared.Admission.{Admission}
-use Rattle.recording.specs.declared.Admission.TheVariants as admission
 use Rattle.recording.specs.declared.Event.{Event}
 use Rattle.recording.specs.declared.Event.TheVariants as event
-use Rattle.recording.specs.declared.Entry.{Entry}
-use Rattle.recording.specs.declared.Entry.TheVariants as entry
 use Rattle.replay.specs.Events.{Play, with_used, after_admission, bad_event, log_goes_on, near_played, event_played, stepped}
 use Rattle.replay.specs.Log.{Inputs, inputs, all_samples, event_number, samples_for, lines_from}
 use Rattle.replay.specs.declared.Session.{Session}
@@ -50,12 +47,12 @@ same_supply form used count total whole left p b f true q e = elim (there_or_all
 ]
 
 pub same_admission : (h : Header) (far near : List ℕ) (u : Used) (r : Rest) (hand : Hand) → Behind far (bytes_of h.form u.far) r.far → Behind near (bytes_of h.form u.near) r.near → FairHand r hand
-    → (k : Event) → awaits h u hand (need_of (entry.Good k)) ≡ false → admitted h (seen h.form u hand) u k ≡ admitted h (record { far = length far; near = length near }) u k
+    → (k : Event) → awaits h u hand (need_of (Some k)) ≡ false → admitted h (seen h.form u hand) u k ≡ admitted h (record { far = length far; near = length near }) u k
 unfolding admitted
 same_admission h far near u r hand bf bn fair (event.Far count) e =
-    ap (λ (t : Bool). pick t (admission.Enough (used_up (u.far + count) u.near)) admission.Lacking) (same_supply h.form u.far count h.far far r.far hand.far bf fair.far (leb (u.far + count) h.far) refl e)
+    ap (λ (t : Bool). pick t (Some (used_up (u.far + count) u.near)) None) (same_supply h.form u.far count h.far far r.far hand.far bf fair.far (leb (u.far + count) h.far) refl e)
 same_admission h far near u r hand bf bn fair (event.Near count first) e =
-    ap (λ (t : Bool). pick t (admission.Enough (used_up u.far (u.near + count))) admission.Lacking) (same_supply h.form u.near count h.near near r.near hand.near bn fair.near (leb (u.near + count) h.near) refl e)
+    ap (λ (t : Bool). pick t (Some (used_up u.far (u.near + count))) None) (same_supply h.form u.near count h.near near r.near hand.near bn fair.near (leb (u.near + count) h.near) refl e)
 same_admission h far near u r hand bf bn fair event.Rearm e = refl
 same_admission h far near u r hand bf bn fair event.DiscardNear e = refl
 same_admission h far near u r hand bf bn fair event.Unconfident e = refl
@@ -70,7 +67,7 @@ pub record Taken (form : Form) (e : ℕ) (u u' : Used) (hand : Hand) (need : Nee
   pub near : bytes_of form u'.near ≡ bytes_of form u.near + bytes_of form (left_of (stage_after e need))
   pub near_there : bytes_of form (left_of (stage_after e need)) ≤ length hand.near.bytes
 
-enough : (t : Bool) (v u : Used) → pick t (admission.Enough v) admission.Lacking ≡ admission.Enough u → (t ≡ true) × (v ≡ u)
+enough : (t : Bool) (v u : Used) → pick t (Some v) None ≡ Some u → (t ≡ true) × (v ≡ u)
 unfolding pick
 enough true v u e = (refl, cc)
 enough false v u e = let z : ◌≡◌ {A = ℕ} 0 1 = cc in absurd (omega (arith, z))
@@ -87,12 +84,12 @@ midway_ahead i h near n e index zero s b = refl
 midway_ahead i h near n e index (suc left) s b = refl
 
 module _ (e : ℕ) (h : Header) (u u' : Used) (hand : Hand) where
-  taken_none : admission.Enough u ≡ admission.Enough u' → Taken h.form e u u' hand NoSamples
+  taken_none : Some u ≡ Some u' → Taken h.form e u u' hand NoSamples
   taken_none q =
       let same : u ≡ u' = cc in
       record { far = ap (λ (v : Used). bytes_of h.form v.far) (sym same) ∙ omega arith; far_there = omega arith; near = ap (λ (v : Used). bytes_of h.form v.near) (sym same) ∙ omega arith; near_there = omega arith }
 
-  pub taken : (k : Event) → admitted h (seen h.form u hand) u k ≡ admission.Enough u' → Taken h.form e u u' hand (need_of (entry.Good k))
+  pub taken : (k : Event) → admitted h (seen h.form u hand) u k ≡ Some u' → Taken h.form e u u' hand (need_of (Some k))
   unfolding admitted
   taken (event.Far count) q =
       let w = enough (supplied h.form (u.far + count) h.far (bytes_of h.form u.far + length hand.far.bytes)) (used_up (u.far + count) u.near) u' q in
@@ -139,12 +136,12 @@ module _ (events far near : List ℕ) (h : Header) (n : ℕ) (s : Session) (b : 
   abbrev onwards : Play → List Line
   onwards p = p.lines ++ pick p.ends [] (lines_from i h (h.events - (n + 1)) (n + 1) p.session p.buffers)
 
-  from_here : (k : Entry) → event_number h.form events n ≡ k → ahead i h r.near n Events s b ≡ onwards (stepped h i.lengths n s b k (samples_for i s.used k))
+  from_here : (k : Option Event) → event_number h.form events n ≡ k → ahead i h r.near n Events s b ≡ onwards (stepped h i.lengths n s b k (samples_for i s.used k))
   unfolding lines_from
   from_here k q =
       let m : h.events - n ≡ suc (h.events - (n + 1)) = omega arith in
       ap (λ (left : ℕ). lines_from i h left n s b) m
-      ∙ ap (λ (j : Entry). onwards (stepped h i.lengths n s b j (samples_for i s.used j))) q
+      ∙ ap (λ (j : Option Event). onwards (stepped h i.lengths n s b j (samples_for i s.used j))) q
 
   goes : (p : Play) → p.ends ≡ false → onwards p ≡ followed i h (n + 1) p
   goes p f = ap (λ (ls : List Line). p.lines ++ ls) (pick_false p.ends [] _ f)
@@ -165,24 +162,24 @@ module _ (events far near : List ℕ) (h : Header) (n : ℕ) (s : Session) (b : 
 
   -- ---- an admitted event
 
-  module _ (k : Event) (is : event_number h.form events n ≡ entry.Good k) (whole : 16 ≤ length hand.events.bytes) (u : Used)
-      (a : admitted h i.lengths s.used k ≡ admission.Enough u) (t : Taken h.form n s.used u hand (need_of (entry.Good k))) where
+  module _ (k : Event) (is : event_number h.form events n ≡ Some k) (whole : 16 ≤ length hand.events.bytes) (u : Used)
+      (a : admitted h i.lengths s.used k ≡ Some u) (t : Taken h.form n s.used u hand (need_of (Some k))) where
     abbrev need : Need
-    need = need_of (entry.Good k)
+    need = need_of (Some k)
 
     -- as it is played here, and as the log has it
     abbrev here : Play
     here = event_played n (with_used s u) b k (handed h.form hand need)
 
     abbrev there : Play
-    there = event_played n (with_used s u) b k (samples_for i s.used (entry.Good k))
+    there = event_played n (with_used s u) b k (samples_for i s.used (Some k))
 
     in_log : ahead i h r.near n Events s b ≡ followed i h (n + 1) there
     unfolding stepped
     in_log =
-        from_here (entry.Good k) is
-        ∙ ap (λ (x : Admission). onwards (after_admission n s b k (samples_for i s.used (entry.Good k)) x)) a
-        ∙ goes there (event_goes n (with_used s u) b k (samples_for i s.used (entry.Good k)))
+        from_here (Some k) is
+        ∙ ap (λ (x : Option Used). onwards (after_admission n s b k (samples_for i s.used (Some k)) x)) a
+        ∙ goes there (event_goes n (with_used s u) b k (samples_for i s.used (Some k)))
 
     abbrev after : Next
     after = next (n + 1) (stage_after n need) here.session here.buffers (told here.lines) (used_for h.form need)
@@ -228,7 +225,7 @@ module _ (events far near : List ℕ) (h : Header) (n : ℕ) (s : Session) (b : 
         subst P (sym (pick_false here.ends (next n Closed s here.buffers (told here.lines) (bytes_used 0 0 0)) after (event_goes n (with_used s u) b k (handed h.form hand need)))) law
 
     -- any event but a near one: all of it is played, with the samples that the log has
-    plain_law : stage_after n need ≡ Events → samples_for i s.used (entry.Good k) ≡ handed h.form hand need → P (entered h.form n s need here)
+    plain_law : stage_after n need ≡ Events → samples_for i s.used (Some k) ≡ handed h.form hand need → P (entered h.form n s need here)
     plain_law e q =
         entered_law
         (in_log
@@ -254,7 +251,7 @@ module _ (events far near : List ℕ) (h : Header) (n : ℕ) (s : Session) (b : 
 
   module _ (whole : 16 ≤ length hand.events.bytes) (u : Used) where
     -- a near event is entered, and all its samples are still ahead
-    near_law : (count first : ℕ) → event_number h.form events n ≡ entry.Good (event.Near count first) → admitted h i.lengths s.used (event.Near count first) ≡ admission.Enough u
+    near_law : (count first : ℕ) → event_number h.form events n ≡ Some (event.Near count first) → admitted h i.lengths s.used (event.Near count first) ≡ Some u
         → Taken h.form n s.used u hand (NearSamples count first) → P (entered h.form n s (NearSamples count first) (event_played n (with_used s u) b (event.Near count first) []))
     unfolding event_played near_played samples_of
     near_law count first is a t =
@@ -264,8 +261,8 @@ module _ (events far near : List ℕ) (h : Header) (n : ℕ) (s : Session) (b : 
         ∙ ap (λ (xs : List Float). followed i h (n + 1) (log_goes_on (near_played n (with_used s u) b xs first))) (near_samples count there)
         ∙ sym (midway_ahead i h r.near (n + 1) n first count (with_used s u) b))
 
-    event_law : (k : Event) → event_number h.form events n ≡ entry.Good k → admitted h i.lengths s.used k ≡ admission.Enough u → Taken h.form n s.used u hand (need_of (entry.Good k))
-        → P (entered h.form n s (need_of (entry.Good k)) (event_played n (with_used s u) b k (handed h.form hand (need_of (entry.Good k)))))
+    event_law : (k : Event) → event_number h.form events n ≡ Some k → admitted h i.lengths s.used k ≡ Some u → Taken h.form n s.used u hand (need_of (Some k))
+        → P (entered h.form n s (need_of (Some k)) (event_played n (with_used s u) b k (handed h.form hand (need_of (Some k)))))
     unfolding samples_of
     event_law (event.Far count) is a t = plain_law (event.Far count) is whole u a t refl (far_samples count t.far_there)
     event_law (event.Near count first) is a t = near_law count first is a t
@@ -278,17 +275,17 @@ module _ (events far near : List ℕ) (h : Header) (n : ℕ) (s : Session) (b : 
 
   -- ---- any entry
 
-  admission_law : (k : Event) → event_number h.form events n ≡ entry.Good k → 16 ≤ length hand.events.bytes → (a : Admission) → admitted h (seen h.form s.used hand) s.used k ≡ a
-      → admitted h i.lengths s.used k ≡ a → P (entered h.form n s (need_of (entry.Good k)) (after_admission n s b k (handed h.form hand (need_of (entry.Good k))) a))
+  admission_law : (k : Event) → event_number h.form events n ≡ Some k → 16 ≤ length hand.events.bytes → (a : Option Used) → admitted h (seen h.form s.used hand) s.used k ≡ a
+      → admitted h i.lengths s.used k ≡ a → P (entered h.form n s (need_of (Some k)) (after_admission n s b k (handed h.form hand (need_of (Some k))) a))
   unfolding stepped
-  admission_law k is whole admission.Lacking here there =
-      closed (need_of (entry.Good k)) (from_here (entry.Good k) is ∙ ap (λ (x : Admission). onwards (after_admission n s b k (samples_for i s.used (entry.Good k)) x)) there)
-  admission_law k is whole (admission.Enough u) here there = event_law whole u k is there (taken n h s.used u hand k here)
+  admission_law k is whole None here there =
+      closed (need_of (Some k)) (from_here (Some k) is ∙ ap (λ (x : Option Used). onwards (after_admission n s b k (samples_for i s.used (Some k)) x)) there)
+  admission_law k is whole (Some u) here there = event_law whole u k is there (taken n h s.used u hand k here)
 
-  pub entry_law : (k : Entry) → event_number h.form events n ≡ k → ((j : Event) → k ≡ entry.Good j → 16 ≤ length hand.events.bytes) → P (entry_turn h n s b hand k)
+  pub entry_law : (k : Option Event) → event_number h.form events n ≡ k → ((j : Event) → k ≡ Some j → 16 ≤ length hand.events.bytes) → P (entry_turn h n s b hand k)
   unfolding entry_turn stepped
-  entry_law entry.Bad is whole = pick_case P false _ _ (λ f. waiting _) (λ f. closed NoSamples (from_here entry.Bad is))
-  entry_law (entry.Good k) is whole =
-      pick_case P (awaits h s.used hand (need_of (entry.Good k))) _ _
+  entry_law None is whole = pick_case P false _ _ (λ f. waiting _) (λ f. closed NoSamples (from_here None is))
+  entry_law (Some k) is whole =
+      pick_case P (awaits h s.used hand (need_of (Some k))) _ _
       (λ f. waiting _)
       (λ f. admission_law k is (whole k refl) (admitted h (seen h.form s.used hand) s.used k) refl (sym (same_admission h far near s.used r hand st.fars near_at fair k f)))

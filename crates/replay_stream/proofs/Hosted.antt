@@ -1,4 +1,5 @@
 -- Every recording has a host that streams it to its end, and what it gets is the log.
+use Rattle.std.specs.Prelude.{Option, Some, None}
 use Prim.Native.Nat.{ℕ}
 use mathlib.Core.Path.{◌≡◌, refl, sym, ap, ◌∙◌, subst}
 use mathlib.Core.Bool.{true, false}
@@ -15,8 +16,6 @@ use Rattle.log_lines.specs.declared.Line.TheVariants as line
 use Rattle.recording.specs.Recording.{offset_of, opened, header_length}
 use Rattle.recording.proofs.Forms.{opened_whole}
 use Rattle.recording.specs.declared.Header.{Header}
-use Rattle.recording.specs.declared.Start.{Start}
-use Rattle.recording.specs.declared.Start.TheVariants as start
 use Rattle.replay.specs.Log.{log_of, new_session, clear_buffers}
 use Rattle.replay.proofs.Ready.{accepts}
 use Rattle.replay_stream.specs.Stream.{Piece, short, Input, Entries, FarSide, NearSide}
@@ -40,9 +39,9 @@ clear_fits g =
 
 -- a patient host, whatever pieces it hands, comes to the end
 module _ (host : Patience) (events far near : List ℕ) (first : Piece) (f : Front events first) (w : short (header_length first.bytes) first ≡ false) where
-  some_lines : (o : Start) → opened events ≡ o → (ls : List Line) × Streams events far near ls
-  some_lines start.BadHeader q = (line.BadHeader ∷ [], unopened first f w (sym (header_handed events first f w) ∙ q))
-  some_lines (start.Opened h) q =
+  some_lines : (o : Option Header) → opened events ≡ o → (ls : List Line) × Streams events far near ls
+  some_lines None q = (line.BadHeader ∷ [], unopened first f w (sym (header_handed events first f w) ∙ q))
+  some_lines (Some h) q =
       let g = geometry_of h.rate h.ceiling in
       let s = new_session h.rate h.ceiling in
       let b = clear_buffers g in
@@ -72,7 +71,7 @@ always_streams events far near =
     patient_log all_at_once events far near (whole_hand r).events (whole_fair r).events refl
 
 -- the notes have the log's lines
-pub noted_log : (events far near : List ℕ) (h : Header) → opened events ≡ start.Opened h → lines_of (noted_of h events far near) ≡ log_of events far near
+pub noted_log : (events far near : List ℕ) (h : Header) → opened events ≡ Some h → lines_of (noted_of h events far near) ≡ log_of events far near
 noted_log events far near h q =
     let g = geometry_of h.rate h.ceiling in
     let s = new_session h.rate h.ceiling in

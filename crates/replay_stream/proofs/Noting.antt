@@ -1,4 +1,5 @@
 -- What a host notes, each line with the session behind it, is a function of the recording: however its bytes come in, it is what all bytes at hand give.
+use Rattle.std.specs.Prelude.{Some}
 use Prim.Native.Nat.{ℕ, zero, suc, ◌+◌, ◌-◌, ◌*◌, ◌≤◌}
 use mathlib.Core.Path.{◌≡◌, refl, sym, ap, ◌∙◌, subst}
 use mathlib.Core.List.{List, [], ◌∷◌}
@@ -9,7 +10,6 @@ use Rattle.scan.specs.State.{Buffers}
 use Rattle.log_lines.specs.declared.Line.{Line}
 use Rattle.recording.specs.Recording.{offset_of, opened}
 use Rattle.recording.specs.declared.Header.{Header}
-use Rattle.recording.specs.declared.Start.TheVariants as start
 use Rattle.replay.specs.Beginning.{beginning, beginning_of}
 use Rattle.replay.specs.Log.{log_of, new_session}
 use Rattle.replay.specs.declared.Session.{Session}
@@ -119,7 +119,7 @@ as_many_lines [] = refl
 as_many_lines (t ∷ ts) = ap suc (as_many_lines ts)
 
 -- What any host notes is `noted_of` of the recording.
-pub streamed_noted : (events far near : List ℕ) (h : Header) (lent cleared : Buffers) (s : Session) (ts : List Noted) → opened events ≡ start.Opened h
+pub streamed_noted : (events far near : List ℕ) (h : Header) (lent cleared : Buffers) (s : Session) (ts : List Noted) → opened events ≡ Some h
     → beginning (begun.Ready s) cleared ≡ beginning_of h lent → Streamed h (opens s) cleared (rest (drop (offset_of h.form) events) far near) ts → ts ≡ noted_of h events far near
 unfolding noted_of
 streamed_noted events far near h lent cleared s ts q ready x =

@@ -1,4 +1,5 @@
 -- Bytes past what the header announces are never read: the log is that of the announced bytes.
+use Rattle.std.specs.Prelude.{Option, Some, None}
 use Prim.Native.Nat.{ℕ, zero, suc, ◌+◌, ◌*◌, ◌≤◌, ◌<◌}
 use mathlib.Core.Path.{◌≡◌, refl, sym, ap, ◌∙◌}
 use mathlib.Core.Bool.{Bool, true, false}
@@ -20,12 +21,8 @@ use Rattle.recording.specs.Samples.{bytes_of, samples_in, samples_of, part, supp
 use Rattle.recording.specs.declared.Form.{Form}
 use Rattle.recording.specs.declared.Header.{Header}
 use Rattle.recording.specs.declared.Used.{Used}
-use Rattle.recording.specs.declared.Start.TheVariants as start
-use Rattle.recording.specs.declared.Admission.TheVariants as admission
 use Rattle.recording.specs.declared.Event.{Event}
 use Rattle.recording.specs.declared.Event.TheVariants as event
-use Rattle.recording.specs.declared.Entry.{Entry}
-use Rattle.recording.specs.declared.Entry.TheVariants as entry
 use Rattle.recording.proofs.Theorems.{header_within, event_within, samples_within}
 use Rattle.recording.proofs.Forms.{opened_length, bytes_mono}
 use Rattle.replay.specs.Events.{Play, after_admission, stepped}
@@ -53,9 +50,9 @@ part_alike form s more u c m =
 
 -- an event that is not admitted reads no sample
 admits_part : (e : ℕ) (s : Session) (b : Buffers) (k : Event) (xs ys : List Float) (v : Used) (t : Bool) → (t ≡ true → xs ≡ ys)
-    → after_admission e s b k xs (pick t (admission.Enough v) admission.Lacking) ≡ after_admission e s b k ys (pick t (admission.Enough v) admission.Lacking)
+    → after_admission e s b k xs (pick t (Some v) None) ≡ after_admission e s b k ys (pick t (Some v) None)
 unfolding pick
-admits_part e s b k xs ys v true q = ap (λ (zs : List Float). after_admission e s b k zs (admission.Enough v)) (q refl)
+admits_part e s b k xs ys v true q = ap (λ (zs : List Float). after_admission e s b k zs (Some v)) (q refl)
 admits_part e s b k xs ys v false q = refl
 
 module _ (h : Header) (e f n x y z : List ℕ) (a : Announced h e f n) where
@@ -67,7 +64,7 @@ module _ (h : Header) (e f n x y z : List ℕ) (a : Announced h e f n) where
 
   module _ (number : ℕ) (s : Session) (b : Buffers) where
     abbrev plays : Inputs → Event → Play
-    plays i k = after_admission number s b k (samples_for i s.used (entry.Good k)) (admitted h i.lengths s.used k)
+    plays i k = after_admission number s b k (samples_for i s.used (Some k)) (admitted h i.lengths s.used k)
 
     event_alike : (k : Event) → plays more k ≡ plays these k
     unfolding admitted samples_of
@@ -76,14 +73,14 @@ module _ (h : Header) (e f n x y z : List ℕ) (a : Announced h e f n) where
         let xs = part (all_samples h.form (f ++ y)) u.far count in
         let v = used_up (u.far + count) u.near in
         let test = supplied h.form (u.far + count) h.far (length f) in
-        ap (λ (t : Bool). after_admission number s b (event.Far count) xs (pick t (admission.Enough v) admission.Lacking)) (supply_alike h.form (u.far + count) h.far f y a.fars)
+        ap (λ (t : Bool). after_admission number s b (event.Far count) xs (pick t (Some v) None)) (supply_alike h.form (u.far + count) h.far f y a.fars)
         ∙ admits_part number s b (event.Far count) xs (part (all_samples h.form f) u.far count) v test (λ t. part_alike h.form f y u.far count (leb-true _ _ (both_true _ _ t).1))
     event_alike (event.Near count first) =
         let u = s.used in
         let xs = part (all_samples h.form (n ++ z)) u.near count in
         let v = used_up u.far (u.near + count) in
         let test = supplied h.form (u.near + count) h.near (length n) in
-        ap (λ (t : Bool). after_admission number s b (event.Near count first) xs (pick t (admission.Enough v) admission.Lacking)) (supply_alike h.form (u.near + count) h.near n z a.nears)
+        ap (λ (t : Bool). after_admission number s b (event.Near count first) xs (pick t (Some v) None)) (supply_alike h.form (u.near + count) h.near n z a.nears)
         ∙ admits_part number s b (event.Near count first) xs (part (all_samples h.form n) u.near count) v test (λ t. part_alike h.form n z u.near count (leb-true _ _ (both_true _ _ t).1))
     event_alike event.Rearm = refl
     event_alike event.DiscardNear = refl
@@ -92,14 +89,14 @@ module _ (h : Header) (e f n x y z : List ℕ) (a : Announced h e f n) where
     event_alike (event.Edge alignment delay) = refl
     event_alike event.Discontinuity = refl
 
-    entry_alike : (k : Entry) → stepped h more.lengths number s b k (samples_for more s.used k) ≡ stepped h these.lengths number s b k (samples_for these s.used k)
+    entry_alike : (k : Option Event) → stepped h more.lengths number s b k (samples_for more s.used k) ≡ stepped h these.lengths number s b k (samples_for these s.used k)
     unfolding stepped
-    entry_alike entry.Bad = refl
-    entry_alike (entry.Good k) = event_alike k
+    entry_alike None = refl
+    entry_alike (Some k) = event_alike k
 
     step_alike : number < h.events → step_at more h number s b ≡ step_at these h number s b
     step_alike m =
-        ap (λ (k : Entry). stepped h more.lengths number s b k (samples_for more s.used k)) (event_within e x (offset_of h.form + 16 * number) (omega (arith, a.entries)))
+        ap (λ (k : Option Event). stepped h more.lengths number s b k (samples_for more s.used k)) (event_within e x (offset_of h.form + 16 * number) (omega (arith, a.entries)))
         ∙ entry_alike (event_number h.form e number)
 
   lines_alike : (left number : ℕ) (s : Session) (b : Buffers) → number + left ≤ h.events → lines_from more h left number s b ≡ lines_from these h left number s b
@@ -111,7 +108,7 @@ module _ (h : Header) (e f n x y z : List ℕ) (a : Announced h e f n) where
       ∙ ap (λ (ls : List Line). p.lines ++ pick p.ends [] ls) (lines_alike left (number + 1) p.session p.buffers (omega arith))
 
 -- a good header: nothing behind what it announces counts
-pub past_unread : (h : Header) (e f n x y z : List ℕ) → opened e ≡ start.Opened h → Announced h e f n → log_of (e ++ x) (f ++ y) (n ++ z) ≡ log_of e f n
+pub past_unread : (h : Header) (e f n x y z : List ℕ) → opened e ≡ Some h → Announced h e f n → log_of (e ++ x) (f ++ y) (n ++ z) ≡ log_of e f n
 unfolding log_of
 past_unread h e f n x y z q a =
     ap (started (e ++ x) (f ++ y) (n ++ z)) (header_within e x (omega (arith, a.entries, opened_length e h q)) ∙ q)
@@ -120,10 +117,10 @@ past_unread h e f n x y z q a =
     ∙ ap (started e f n) (sym q)
 
 -- a bad one: nothing behind its own bytes does
-pub past_bad : (e f n x y z : List ℕ) → header_length e ≤ length e → opened e ≡ start.BadHeader → log_of (e ++ x) (f ++ y) (n ++ z) ≡ log_of e f n
+pub past_bad : (e f n x y z : List ℕ) → header_length e ≤ length e → opened e ≡ None → log_of (e ++ x) (f ++ y) (n ++ z) ≡ log_of e f n
 unfolding log_of
 past_bad e f n x y z m q = ap (started (e ++ x) (f ++ y) (n ++ z)) (header_within e x m ∙ q) ∙ ap (started e f n) (sym q)
 
 -- So a host may stop at the announced ends and call them the ends of its inputs: what it gets is the log of all bytes.
-pub announced_log : (h : Header) (e f n x y z : List ℕ) (ls : List Line) → opened e ≡ start.Opened h → Announced h e f n → Streams e f n ls → ls ≡ log_of (e ++ x) (f ++ y) (n ++ z)
+pub announced_log : (h : Header) (e f n x y z : List ℕ) (ls : List Line) → opened e ≡ Some h → Announced h e f n → Streams e f n ls → ls ≡ log_of (e ++ x) (f ++ y) (n ++ z)
 announced_log h e f n x y z ls q a host = streamed_log e f n ls host ∙ sym (past_unread h e f n x y z q a)

@@ -1,4 +1,5 @@
 -- A sample, and an event other than a near one, logs at most one line, and leaves the counts of what is used.
+use Rattle.std.specs.Prelude.{Some}
 use Prim.Native.Nat.{ℕ}
 use mathlib.Core.Path.{◌≡◌, refl}
 use mathlib.Core.Bool.{false}
@@ -20,7 +21,6 @@ use Rattle.recording.specs.declared.Form.{Form}
 use Rattle.recording.specs.declared.Used.{Used}
 use Rattle.recording.specs.declared.Event.{Event}
 use Rattle.recording.specs.declared.Event.TheVariants as event
-use Rattle.recording.specs.declared.Entry.TheVariants as entry
 use Rattle.replay.specs.Words.{change_lines}
 use Rattle.replay.specs.Events.{Play, with_scan, after_score, score_played, after_taking, sample_played, near_played, cycle_played, seam_played, event_played}
 use Rattle.replay.specs.declared.Session.{Session}
@@ -72,7 +72,7 @@ change_one e (change.Refused number) = refl
 change_one e change.Done = refl
 
 module _ (form : Form) (e : ℕ) (s : Session) (b : Buffers) (hand : Hand) where
-  pub event_plain : (k : Event) → Plain (event_played e s b k (handed form hand (need_of (entry.Good k)))) s.used
+  pub event_plain : (k : Event) → Plain (event_played e s b k (handed form hand (need_of (Some k)))) s.used
   unfolding event_played near_played cycle_played seam_played
   event_plain (event.Far count) = record { one = change_one e _; keeps = refl }
   event_plain (event.Near count first) = record { one = refl; keeps = refl }

@@ -1,4 +1,6 @@
 -- `next_line` has turns enough: it never answers Silent. Each silent turn brings the stream nearer to its close.
+use Rattle.std.specs.Prelude.{Option}
+use Rattle.recording.specs.declared.Event.{Event}
 use Prim.Native.Nat.{ℕ, zero, suc, ◌+◌, ◌-◌, ◌*◌, ◌≤◌, ◌<◌, min}
 use mathlib.Core.Path.{◌≡◌, refl, sym, ap, ◌∙◌, subst}
 use mathlib.Core.Bool.{true, false≢true}
@@ -14,7 +16,6 @@ use Rattle.log_lines.specs.declared.Line.{Line}
 use Rattle.recording.specs.Recording.{event_at}
 use Rattle.recording.specs.Samples.{bytes_of, samples_in}
 use Rattle.recording.specs.declared.Header.{Header}
-use Rattle.recording.specs.declared.Entry.{Entry}
 use Rattle.replay.specs.Events.{stepped}
 use Rattle.replay.specs.declared.Session.{Session}
 pub use Rattle.replay_stream.specs.Stream.{to_go}
@@ -36,7 +37,7 @@ module _ (h : Header) where
   abbrev Nearer : ℕ → Stage → Next → Type 0
   Nearer n stage t = silent t.answer ≡ true → to_go h t.place.number t.place.stage < to_go h n stage
 
-  entry_nearer : (n : ℕ) (s : Session) (b : Buffers) (hand : Hand) (k : Entry) → n < h.events → Nearer n Events (entry_turn h n s b hand k)
+  entry_nearer : (n : ℕ) (s : Session) (b : Buffers) (hand : Hand) (k : Option Event) → n < h.events → Nearer n Events (entry_turn h n s b hand k)
   unfolding entry_turn
   entry_nearer n s b hand k more =
       let p = stepped h (seen h.form s.used hand) n s b k (handed h.form hand (need_of k)) in

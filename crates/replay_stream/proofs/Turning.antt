@@ -1,4 +1,5 @@
 -- Every turn, and every row of turns, is lawful: what it says is the front of what is ahead.
+use Rattle.std.specs.Prelude.{Option, Some, None}
 use Prim.Native.Nat.{ℕ, zero, suc, ◌+◌, ◌-◌, ◌*◌, ◌≤◌, min}
 use mathlib.Core.Path.{◌≡◌, refl, sym, ap, ◌∙◌, subst}
 use mathlib.Core.Bool.{Bool, true, false, false≢true}
@@ -16,8 +17,6 @@ use Rattle.recording.specs.Recording.{offset_of, event_at}
 use Rattle.recording.specs.Samples.{bytes_of, samples_in}
 use Rattle.recording.specs.declared.Header.{Header}
 use Rattle.recording.specs.declared.Event.{Event}
-use Rattle.recording.specs.declared.Entry.{Entry}
-use Rattle.recording.specs.declared.Entry.TheVariants as entry
 use Rattle.recording.specs.declared.Used.{Used}
 use Rattle.replay.specs.Events.{Play, log_goes_on, near_played}
 use Rattle.replay.specs.Log.{Inputs, inputs, lines_from, closing}
@@ -32,12 +31,12 @@ use Rattle.replay_stream.proofs.Entering.{midway_left, midway_ahead, waiting, en
 
 -- ---- the next event, or the close
 
-good_for : (t : Bool) (x : Entry) (j : Event) → pick t x entry.Bad ≡ entry.Good j → t ≡ true
+good_for : (t : Bool) (x : Option Event) (j : Event) → pick t x None ≡ Some j → t ≡ true
 unfolding pick
 good_for true x j e = refl
 good_for false x j e = let z : ◌≡◌ {A = ℕ} 0 1 = cc in absurd (omega (arith, z))
 
-pub good_whole : (s : List ℕ) (j : Event) → event_at s 0 ≡ entry.Good j → 16 ≤ length s
+pub good_whole : (s : List ℕ) (j : Event) → event_at s 0 ≡ Some j → 16 ≤ length s
 unfolding event_at
 good_whole s j e = leb-true (0 + 16) (length s) (good_for _ _ j e)
 

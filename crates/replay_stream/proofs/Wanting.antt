@@ -1,4 +1,6 @@
 -- More is wanted only where little is at hand: fewer than 16 bytes of the events, or fewer than 16,384 of a side, behind what was used, and the end not told.
+use Rattle.std.specs.Prelude.{Option}
+use Rattle.recording.specs.declared.Event.{Event}
 use Prim.Native.Nat.{ℕ, zero, suc, ◌+◌, ◌-◌, ◌*◌, ◌≤◌, ◌<◌, min}
 use mathlib.Core.Path.{◌≡◌, refl, sym, ap, ◌∙◌, subst}
 use mathlib.Core.Bool.{Bool, true, false, not, false≢true}
@@ -16,7 +18,6 @@ use Rattle.recording.specs.Samples.{bytes_of, samples_in}
 use Rattle.recording.specs.declared.Form.{Form}
 use Rattle.recording.specs.declared.Header.{Header}
 use Rattle.recording.specs.declared.Used.{Used}
-use Rattle.recording.specs.declared.Entry.{Entry}
 use Rattle.recording.proofs.Forms.{bytes_mono, bytes_most}
 use Rattle.replay.specs.Events.{stepped}
 use Rattle.replay.specs.declared.Session.{Session}
@@ -79,7 +80,7 @@ none_used FarSide u hand z = ap (λ (k : ℕ). past k hand.far) z
 none_used NearSide u hand z = ap (λ (k : ℕ). past k hand.near) z
 
 module _ (events far near : List ℕ) (h : Header) where
-  entry_truly : (n : ℕ) (s : Session) (b : Buffers) (hand : Hand) (k : Entry) → Few (need_of k) → Truly n Events s b hand (entry_turn h n s b hand k)
+  entry_truly : (n : ℕ) (s : Session) (b : Buffers) (hand : Hand) (k : Option Event) → Few (need_of k) → Truly n Events s b hand (entry_turn h n s b hand k)
   unfolding entry_turn
   entry_truly n s b hand k f =
       let p = stepped h (seen h.form s.used hand) n s b k (handed h.form hand (need_of k)) in

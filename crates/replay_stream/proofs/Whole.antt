@@ -1,4 +1,5 @@
 -- What a host gets by streaming is the log of the recording, for every recording, however its bytes come in.
+use Rattle.std.specs.Prelude.{Some}
 use Prim.Native.Nat.{ℕ, ◌+◌, ◌-◌, ◌*◌, ◌≤◌}
 use mathlib.Core.Path.{◌≡◌, refl, sym, ap, ◌∙◌, subst}
 use mathlib.Core.List.{List, ◌∷◌, ◌++◌}
@@ -11,7 +12,6 @@ use Rattle.log_lines.specs.declared.Line.TheVariants as line
 use Rattle.recording.specs.Recording.{offset_of, opened}
 use Rattle.recording.specs.Samples.{bytes_of}
 use Rattle.recording.specs.declared.Header.{Header}
-use Rattle.recording.specs.declared.Start.TheVariants as start
 use Rattle.replay.specs.Log.{inputs, lines_from, started, log_of, new_session, clear_buffers}
 use Rattle.recording.proofs.Forms.{opened_whole}
 use Rattle.replay.specs.Beginning.{beginning, beginning_of}
@@ -70,14 +70,14 @@ start_stands events far near h m =
       few = omega arith;
     }
 
-pub ready_stands : (events far near : List ℕ) (h : Header) (lent cleared : Buffers) (s : Session) → opened events ≡ start.Opened h → beginning (begun.Ready s) cleared ≡ beginning_of h lent
+pub ready_stands : (events far near : List ℕ) (h : Header) (lent cleared : Buffers) (s : Session) → opened events ≡ Some h → beginning (begun.Ready s) cleared ≡ beginning_of h lent
     → StandsAt events far near h (opens s) (rest (drop (offset_of h.form) events) far near)
 ready_stands events far near h lent cleared s q ready = rw (ready_is h lent cleared s ready).0 (start_stands events far near h (opened_whole events h q))
 
 -- ---- all of it
 
 -- what is streamed behind a good header is the log
-pub opened_log : (events far near : List ℕ) (h : Header) (lent cleared : Buffers) (s : Session) (ts : List Noted) → opened events ≡ start.Opened h
+pub opened_log : (events far near : List ℕ) (h : Header) (lent cleared : Buffers) (s : Session) (ts : List Noted) → opened events ≡ Some h
     → beginning (begun.Ready s) cleared ≡ beginning_of h lent → Streamed h (opens s) cleared (rest (drop (offset_of h.form) events) far near) ts → lines_of ts ≡ log_of events far near
 unfolding log_of
 opened_log events far near h lent cleared s ts q ready x =

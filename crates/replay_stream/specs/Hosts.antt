@@ -1,14 +1,13 @@
 -- A host that streams a recording. It opens and starts as any host does. Then it calls `next_line` again and again, each time with what the last call left, and hands
 -- of each input some of the bytes that were not used yet, from the first one on: as many as it likes, in pieces that it likes. It says that an input has
 -- ended only where no byte comes behind those at hand. It keeps the lines, and stops where the log is over.
-use Rattle.std.specs.Prelude.{ℕ, ◌+◌, ◌*◌, ◌≤◌, ◌≡◌, true, false, List, [], ◌∷◌, ◌++◌, length, drop}
+use Rattle.std.specs.Prelude.{ℕ, ◌+◌, ◌*◌, ◌≤◌, ◌≡◌, true, false, List, [], ◌∷◌, ◌++◌, length, drop, Some, None}
 use Rattle.scan.specs.State.{Buffers}
 use Rattle.log_lines.specs.declared.Line.{Line}
 use Rattle.log_lines.specs.declared.Line.TheVariants as line
 use Rattle.recording.specs.Recording.{offset_of, opened, header_length}
 use Rattle.recording.specs.Samples.{bytes_of}
 use Rattle.recording.specs.declared.Header.{Header}
-use Rattle.recording.specs.declared.Start.TheVariants as start
 use Rattle.replay.specs.Beginning.{beginning, beginning_of}
 use Rattle.replay.specs.declared.Session.{Session}
 use Rattle.replay.specs.declared.Begun.TheVariants as begun
@@ -70,9 +69,9 @@ opens s = record { number = 0; stage = Opening; session = s }
 
 -- all of it. The header is read from as many bytes at hand as its first 24 say that it has, or from all where there are fewer.
 pub data Streams (events far near : List ℕ) : List Line → Type 0 where
-  unopened : (first : Piece) → Front events first → short (header_length first.bytes) first ≡ false → opened first.bytes ≡ start.BadHeader → Streams events far near (line.BadHeader ∷ [])
+  unopened : (first : Piece) → Front events first → short (header_length first.bytes) first ≡ false → opened first.bytes ≡ None → Streams events far near (line.BadHeader ∷ [])
   streams : (first : Piece) (h : Header) (lent cleared : Buffers) (s : Session) (ts : List Noted) → Front events first → short (header_length first.bytes) first ≡ false
-      → opened first.bytes ≡ start.Opened h → beginning (begun.Ready s) cleared ≡ beginning_of h lent
+      → opened first.bytes ≡ Some h → beginning (begun.Ready s) cleared ≡ beginning_of h lent
       → Streamed h (opens s) cleared (rest (drop (offset_of h.form) events) far near) ts → Streams events far near (lines_of ts)
 
 -- ---- how much a host needs at hand

@@ -2,7 +2,8 @@
 -- `next_line` takes turns until there is a line, until more bytes are wanted, or until the log is over. The rules are those of Events and Log: this adds only
 -- where the bytes stand. Hosts says what a host may do with it, and the theorem `streamed_log` that it then gets the log. The types of a place and of an answer are those
 -- of src/lib.rt.
-use Rattle.std.specs.Prelude.{ℕ, zero, suc, ◌+◌, ◌-◌, ◌*◌, ◌≤◌, min, Bool, true, false, not, List, [], ◌∷◌, leb, ltb, length, drop, Float}
+use Rattle.std.specs.Prelude.{ℕ, zero, suc, ◌+◌, ◌-◌, ◌*◌, ◌≤◌, min, Bool, true, false, not, List, [], ◌∷◌, leb, ltb, length, drop, Float, Option, Some, None}
+use Rattle.recording.specs.declared.Event.{Event}
 use Rattle.answers.specs.Pick.{pick, both}
 use Rattle.answers.specs.Numbers.{next_long_count}
 use Rattle.scan.specs.State.{Buffers}
@@ -15,8 +16,6 @@ use Rattle.recording.specs.declared.Header.{Header}
 use Rattle.recording.specs.declared.Lengths.{Lengths}
 use Rattle.recording.specs.declared.Used.{Used}
 use Rattle.recording.specs.declared.Event.TheVariants as event
-use Rattle.recording.specs.declared.Entry.{Entry}
-use Rattle.recording.specs.declared.Entry.TheVariants as entry
 use Rattle.replay.specs.Events.{Play, sample_played, stepped}
 use Rattle.replay.specs.Log.{closing}
 use Rattle.replay.specs.declared.Session.{Session}
@@ -122,16 +121,16 @@ Few NoSamples = Unit {0}
 Few (FarSamples count) = count ≤ 4096
 Few (NearSamples count first) = count ≤ 4096
 
-abbrev pub need_of : Entry → Need
-need_of entry.Bad = NoSamples
-need_of (entry.Good (event.Far count)) = FarSamples count
-need_of (entry.Good (event.Near count first)) = NearSamples count first
-need_of (entry.Good event.Rearm) = NoSamples
-need_of (entry.Good event.DiscardNear) = NoSamples
-need_of (entry.Good event.Unconfident) = NoSamples
-need_of (entry.Good (event.Interior alignment delay)) = NoSamples
-need_of (entry.Good (event.Edge alignment delay)) = NoSamples
-need_of (entry.Good event.Discontinuity) = NoSamples
+abbrev pub need_of : Option Event → Need
+need_of None = NoSamples
+need_of (Some (event.Far count)) = FarSamples count
+need_of (Some (event.Near count first)) = NearSamples count first
+need_of (Some event.Rearm) = NoSamples
+need_of (Some event.DiscardNear) = NoSamples
+need_of (Some event.Unconfident) = NoSamples
+need_of (Some (event.Interior alignment delay)) = NoSamples
+need_of (Some (event.Edge alignment delay)) = NoSamples
+need_of (Some event.Discontinuity) = NoSamples
 
 -- its bytes are awaited; not so where it passes the header's total, for then it is bad without them
 abbrev pub awaited : Form → ℕ → ℕ → ℕ → Piece → Bool
@@ -173,7 +172,7 @@ entered form e s need p =
     (next e Closed s p.buffers (told p.lines) (bytes_used 0 0 0))
     (next (e + 1) (stage_after e need) p.session p.buffers (told p.lines) (used_for form need))
 
-unfoldable pub entry_turn : Header → ℕ → Session → Buffers → Hand → Entry → Next
+unfoldable pub entry_turn : Header → ℕ → Session → Buffers → Hand → Option Event → Next
 entry_turn h e s b hand k =
     pick (awaits h s.used hand (need_of k))
     (waits e Events s b (side_of (need_of k)))

@@ -1,8 +1,8 @@
 -- `recording_convert::judge` meets its contract: the entry is read, and an event is judged by `admit`.
 use Rattle.recording_convert.proofs.judge.Goals as goal
 
-pub returns-in-Bad : goal.returns-in-Bad
-returns-in-Bad c = rw (← c.event_at-entry.ensures, c.in-Bad.is)
+pub returns-in-None : goal.returns-in-None
+returns-in-None c = rw (← c.event_at-entry.ensures, c.in-None.is)
 
-pub returns-in-Good : goal.returns-in-Good
-returns-in-Good c = rw (← c.event_at-entry.ensures, c.in-Good.is) c.admit.ensures
+pub returns-in-Some : goal.returns-in-Some
+returns-in-Some c = rw (← c.event_at-entry.ensures, c.in-Some.is) c.admit.ensures

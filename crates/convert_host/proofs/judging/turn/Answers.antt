@@ -1,8 +1,8 @@
 -- `convert_host::judging::turn` meets its contract.
 use Rattle.convert_host.proofs.judging.turn.Goals as goal
 
-pub returns-in-Lacking : goal.returns-in-Lacking
-returns-in-Lacking c = rw c.lacking.ensures c.fill-side.ensures
+pub returns-in-None : goal.returns-in-None
+returns-in-None c = rw c.lacking.ensures c.fill-side.ensures
 
-pub returns-in-Enough : goal.returns-in-Enough
-returns-in-Enough c = rw c.judged.ensures c.past.ensures
+pub returns-in-Some : goal.returns-in-Some
+returns-in-Some c = rw c.judged.ensures c.past.ensures

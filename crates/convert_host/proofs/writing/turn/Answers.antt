@@ -7,5 +7,5 @@ admitted_turn-requires c =
     let rooms = c.requires.1 in
     (c.ready-work.ensures, record { er = c.ready-work.auto.er ∙ rooms.er; eo = rooms.eo; fr = rooms.fr; fo = rooms.fo; nr = rooms.nr; no = rooms.no })
 
-pub shape_of-er-in-Good : goal.shape_of-er-in-Good
-shape_of-er-in-Good c = c.ready-work.auto.er
+pub shape_of-er-in-Some : goal.shape_of-er-in-Some
+shape_of-er-in-Some c = c.ready-work.auto.er
