@@ -111,8 +111,8 @@ fn all(header: Header, lengths: Lengths, events: &File, room: &mut [u8]) -> Judg
 }
 
 fn told_of(header: Header, j: Judging) -> Judgement {
-    if j.side.input.failed {
-        return Judgement::Unread(j.side.input.reason);
+    if let Some(why) = j.side.input.failed {
+        return Judgement::Unread(why);
     }
     if j.lacks {
         return Judgement::BadEvent(j.number);
@@ -143,8 +143,8 @@ fn judge_in(direction: Direction, events: &File, lengths: Lengths, room: &mut [u
     requires { length room.old ≡ 65536 }
 {
     let head = recording_head::read(Some(events), u64::MAX, room);
-    if head.failed {
-        return Judgement::Unread(head.reason);
+    if let Some(why) = head.failed {
+        return Judgement::Unread(why);
     }
     match recording_head::opened(head, room) {
         None => Judgement::BadHeader,

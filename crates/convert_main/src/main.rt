@@ -165,14 +165,14 @@ fn outcome(
     to_far: &[u8],
     to_near: &[u8],
 ) -> u64 {
-    if work.events.input.failed {
-        return unread_half(rt, events, work.events.input.reason);
+    if let Some(why) = work.events.input.failed {
+        return unread_half(rt, events, why);
     }
-    if work.far.input.failed {
-        return unread_half(rt, far, work.far.input.reason);
+    if let Some(why) = work.far.input.failed {
+        return unread_half(rt, far, why);
     }
-    if work.near.input.failed {
-        return unread_half(rt, near, work.near.input.reason);
+    if let Some(why) = work.near.input.failed {
+        return unread_half(rt, near, why);
     }
     if !work.events.out.good {
         return unread_half(rt, to_events, work.events.out.reason);

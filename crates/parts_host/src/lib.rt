@@ -83,8 +83,8 @@ fn heard(log: u8, stand: Stand, room: &[u8], name: &[u8], text: &mut [u8], out: 
 {
     let look = stand.look;
     let window = stand.window;
-    if window.failed {
-        return Outcome::Unread(log, window.reason);
+    if let Some(why) = window.failed {
+        return Outcome::Unread(log, why);
     }
     match look {
         Look::Goes(_used) => Outcome::Changed,

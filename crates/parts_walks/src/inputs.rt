@@ -111,10 +111,10 @@ pub fn go_on(
 
 // 0 where none has failed, else the number of the first log that has.
 pub fn failed(inputs: Inputs) -> u8 {
-    if inputs.first.failed {
+    if inputs.first.failed.is_some() {
         return 1;
     }
-    if inputs.second.failed {
+    if inputs.second.failed.is_some() {
         return 2;
     }
     0
@@ -122,11 +122,9 @@ pub fn failed(inputs: Inputs) -> u8 {
 
 // Why that one has.
 pub fn reason_of(inputs: Inputs) -> Reason {
-    if inputs.first.failed {
-        return inputs.first.reason;
-    }
-    if inputs.second.failed {
-        return inputs.second.reason;
-    }
-    reason::none()
+    inputs
+        .first
+        .failed
+        .or(inputs.second.failed)
+        .unwrap_or(reason::none())
 }

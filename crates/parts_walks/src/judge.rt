@@ -86,7 +86,7 @@ fn wanted(look: Look) -> bool {
 fn goes_on(stand: Stand) -> bool {
     let window = stand.window;
     let look = stand.look;
-    if window.failed {
+    if window.failed.is_some() {
         return false;
     }
     wanted(look)

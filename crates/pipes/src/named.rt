@@ -40,15 +40,12 @@ pub fn fail(err: Stderr, tool: &[u8], file: &[u8], why: Reason) {
 
 // How many words the program was started with, its own name among them.
 pub fn words(rt: &impl Env) -> usize {
-    let mut n = 0;
-    while n < usize::MAX {
-        match rt.arg(n, &mut []) {
-            Err(FillError::NotPresent) => return n,
-            Err(FillError::TooLong) => n += 1,
-            Ok(_) => n += 1,
+    for n in 0..usize::MAX {
+        if let Err(FillError::NotPresent) = rt.arg(n, &mut []) {
+            return n;
         }
     }
-    n
+    usize::MAX
 }
 
 // Argument i, whole, at the start of `name`. One that is too long is not cut short, for that would name another file.
@@ -64,15 +61,15 @@ pub fn argument(rt: HostRuntime, tool: &[u8], i: usize, name: &mut [u8]) -> usiz
     }
 }
 
+// The name as std takes it.
+fn text_of(name: &[u8]) -> Result<&str, Reason> {
+    std::str::from_utf8(name).map_err(|_| reason::no_text())
+}
+
 // A file opened as is asked for, or why not.
 pub fn opened(rt: HostRuntime, how: &OpenOptions, file: &[u8]) -> Result<File, Reason> {
-    match std::str::from_utf8(file) {
-        Ok(path) => match how.open(&rt, path) {
-            Ok(found) => Ok(found),
-            Err(e) => Err(reason::of(&e)),
-        },
-        Err(_) => Err(reason::no_text()),
-    }
+    let path = text_of(file)?;
+    how.open(&rt, path).map_err(|e| reason::of(&e))
 }
 
 // A file opened as is asked for, or none, and why is said.
@@ -124,13 +121,15 @@ pub fn overwrite(rt: HostRuntime, tool: &[u8], file: &[u8]) -> Option<File> {
     )
 }
 
+// A new folder, or why not.
+fn folder_made(rt: HostRuntime, folder: &[u8]) -> Result<(), Reason> {
+    let path = text_of(folder)?;
+    fs::create_dir(&rt, path).map_err(|e| reason::of(&e))
+}
+
 // A new folder, and why there is none is said.
 pub fn make_folder(rt: HostRuntime, tool: &[u8], folder: &[u8]) -> bool {
-    let made = match std::str::from_utf8(folder) {
-        Ok(path) => fs::create_dir(&rt, path).map_err(|e| reason::of(&e)),
-        Err(_) => Err(reason::no_text()),
-    };
-    match made {
+    match folder_made(rt, folder) {
         Ok(()) => true,
         Err(why) => {
             fail(rt.stderr(), tool, folder, why);
@@ -141,7 +140,7 @@ pub fn make_folder(rt: HostRuntime, tool: &[u8], folder: &[u8]) -> bool {
 
 // The file is there no more, where that could be done.
 pub fn remove(rt: HostRuntime, file: &[u8]) {
-    if let Ok(path) = std::str::from_utf8(file) {
+    if let Ok(path) = text_of(file) {
         let _ = fs::remove_file(&rt, path);
     }
 }
@@ -149,10 +148,7 @@ pub fn remove(rt: HostRuntime, file: &[u8]) {
 // Where the next read of a file begins.
 fn place_of(file: &File, to: SeekFrom) -> Result<u64, Reason> {
     let mut at = file;
-    match at.seek(to) {
-        Ok(place) => Ok(place),
-        Err(e) => Err(reason::of(&e)),
-    }
+    at.seek(to).map_err(|e| reason::of(&e))
 }
 
 // Whether a file can be read twice: a pipe cannot, and why is told.

@@ -31,18 +31,14 @@ pub fn no_file() -> Reason {
 }
 
 pub fn of(error: &Error) -> Reason {
-    match error.raw_os_error() {
-        Some(code) => Reason { code },
-        None => Reason { code: OTHER },
+    Reason {
+        code: error.raw_os_error().unwrap_or(OTHER),
     }
 }
 
 // What stands behind a call: why it failed, or what stood before it.
 pub fn behind(before: Reason, done: Result<(), Reason>) -> Reason {
-    match done {
-        Ok(()) => before,
-        Err(why) => why,
-    }
+    done.err().unwrap_or(before)
 }
 
 // Whether a write failed because its reader has gone away, which is no failure to speak of.
@@ -54,14 +50,10 @@ pub fn is_unread(reason: Reason) -> bool {
 fn words(text: &[u8]) -> usize
     ensures { result ≤ length text.now }
 {
-    let mut at = 0;
-    while at < text.len() {
-        if text[at..].starts_with(b" (os error ") {
-            return at;
-        }
-        at += 1;
-    }
-    at
+    let number = b" (os error ".as_slice();
+    text.windows(number.len())
+        .position(|part| part == number)
+        .unwrap_or(text.len())
 }
 
 // Writes the system's words for it, as far as there is room, and tells how many bytes they are.

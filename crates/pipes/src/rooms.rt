@@ -28,6 +28,7 @@ pub fn fill(from: Option<&File>, buf: &mut [u8]) -> usize
     }
 }
 
+// `done` counts the bytes that came: a read brings as many as it likes.
 fn fill_from(from: &File, buf: &mut [u8]) -> usize
     ensures { result ≤ length buf.new }
 {
@@ -35,9 +36,8 @@ fn fill_from(from: &File, buf: &mut [u8]) -> usize
     let mut done = 0;
     while done < buf.len() {
         match file.read(&mut buf[done..]) {
-            Ok(0) => return done,
+            Ok(0) | Err(_) => break,
             Ok(n) => done += n,
-            Err(_) => return done,
         }
     }
     done

@@ -43,10 +43,7 @@ pub fn wipe(err: Stderr) {
 // Writes the whole text, or says why not.
 pub fn write<W: Write + Drop>(to: W, text: &[u8]) -> Result<(), Reason> {
     let mut out = to;
-    match out.write_all(text) {
-        Ok(()) => Ok(()),
-        Err(e) => Err(reason::of(&e)),
-    }
+    out.write_all(text).map_err(|e| reason::of(&e))
 }
 
 // The same behind the progress, which is taken away first.
@@ -60,10 +57,7 @@ pub fn drain<W: Write + Drop>(to: W, text: &[u8], watch: Watch) -> Result<(), Re
 // The number in decimal digits.
 pub fn number<W: Write + Drop>(to: W, n: u64) -> Result<(), Reason> {
     let mut out = to;
-    match write!(out, "{n}") {
-        Ok(()) => Ok(()),
-        Err(e) => Err(reason::of(&e)),
-    }
+    write!(out, "{n}").map_err(|e| reason::of(&e))
 }
 
 // Text whose way out is not asked for.

@@ -97,8 +97,8 @@ fn said(done: Result<(), Reason>, outcome: Outcome) -> Outcome {
 fn outcome_of_check(out: Stdout, check: Check, watched: Watch, room: &[u8]) -> Outcome
     requires { (Within check.log) × (length room.now ≡ 65536) }
 {
-    if check.log.failed {
-        return Outcome::Unread(4, check.log.reason);
+    if let Some(why) = check.log.failed {
+        return Outcome::Unread(4, why);
     }
     let verdict = check.verdict;
     match verdict {

@@ -165,8 +165,8 @@ fn run_in(
 {
     let sink = replay_sink::fresh(goal, watched);
     let head = recording_head::read(files.events, most.events, room);
-    if head.failed {
-        return Outcome::Unread(1, head.reason);
+    if let Some(why) = head.failed {
+        return Outcome::Unread(1, why);
     }
     match recording_head::opened(head, room) {
         None => replay_close::unopened(out, sink, watched, log, room),

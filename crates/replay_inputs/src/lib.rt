@@ -137,13 +137,13 @@ pub fn go_on(
 
 // 0 where none has failed, else the number of the first input that has.
 pub fn failed(inputs: Inputs) -> u8 {
-    if inputs.events.failed {
+    if inputs.events.failed.is_some() {
         return 1;
     }
-    if inputs.far.failed {
+    if inputs.far.failed.is_some() {
         return 2;
     }
-    if inputs.near.failed {
+    if inputs.near.failed.is_some() {
         return 3;
     }
     0
@@ -151,14 +151,10 @@ pub fn failed(inputs: Inputs) -> u8 {
 
 // Why that one has.
 pub fn reason_of(inputs: Inputs) -> Reason {
-    if inputs.events.failed {
-        return inputs.events.reason;
-    }
-    if inputs.far.failed {
-        return inputs.far.reason;
-    }
-    if inputs.near.failed {
-        return inputs.near.reason;
-    }
-    reason::none()
+    inputs
+        .events
+        .failed
+        .or(inputs.far.failed)
+        .or(inputs.near.failed)
+        .unwrap_or(reason::none())
 }

@@ -75,7 +75,7 @@ pub fn take(sink: Sink, answer: Answer, log: Option<&File>, room: &mut [u8]) -> 
 fn on_its_way(check: Check) -> bool
     ensures { result ≡ true → check.verdict ≡ Verdict.Going }
 {
-    if check.log.failed {
+    if check.log.failed.is_some() {
         return false;
     }
     let verdict = check.verdict;
