@@ -48,8 +48,10 @@ pub fn discard_near(scan: Scan, lag_sums: &mut [f64]) -> Changed
     ensures changed { result ≡ (discarded scan lag_sums.old).changed }
     ensures sums { lag_sums.new ≡ (discarded scan lag_sums.old).lag_sums }
 {
-    let near = scan.near;
-    let verdict = scan.verdict;
-    let cleared = parts::with_near_verdict(scan, parts::empty(near), parts::unbank(verdict));
+    let cleared = parts::with_near_verdict(
+        scan,
+        parts::empty(scan.near),
+        parts::unbank(scan.verdict),
+    );
     clearing::clear(scan, lag_sums, cleared)
 }

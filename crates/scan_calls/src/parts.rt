@@ -38,8 +38,7 @@ pub fn empty(n: Near) -> Near
         len: 0,
         sum: 0.0,
         count: 0,
-        first: n.first,
-        last: n.last,
+        ..n
     }
 }
 
@@ -78,55 +77,28 @@ pub fn new_scan(rate: u32, ceiling: u32) -> Scan
 pub fn unbank(v: Verdict) -> Verdict
     ensures { result ≡ unbanked v }
 {
-    let found = v.found;
-    Verdict {
-        banked: 0,
-        frames: v.frames,
-        last: v.last,
-        found,
-        beyond: v.beyond,
-        exhausted: v.exhausted,
-    }
+    Verdict { banked: 0, ..v }
 }
 
 pub fn with_far(scan: Scan, far: Far) -> Scan
     ensures { result ≡ with_far scan far }
 {
-    let geometry = scan.geometry;
-    let near = scan.near;
-    let verdict = scan.verdict;
-    Scan {
-        geometry,
-        far,
-        near,
-        verdict,
-    }
+    Scan { far, ..scan }
 }
 
 pub fn with_near(scan: Scan, near: Near) -> Scan
     ensures { result ≡ with_near scan near }
 {
-    let geometry = scan.geometry;
-    let far = scan.far;
-    let verdict = scan.verdict;
-    Scan {
-        geometry,
-        far,
-        near,
-        verdict,
-    }
+    Scan { near, ..scan }
 }
 
 pub fn with_near_verdict(scan: Scan, near: Near, verdict: Verdict) -> Scan
     ensures { result ≡ with_near_verdict scan near verdict }
 {
-    let geometry = scan.geometry;
-    let far = scan.far;
     Scan {
-        geometry,
-        far,
         near,
         verdict,
+        ..scan
     }
 }
 
@@ -134,13 +106,10 @@ pub fn with_near_verdict(scan: Scan, near: Near, verdict: Verdict) -> Scan
 pub fn searching_anew(scan: Scan) -> Scan
     ensures { result ≡ with_near_verdict scan new_near new_verdict }
 {
-    let geometry = scan.geometry;
-    let history = scan.far;
     Scan {
-        geometry,
-        far: history,
         near: new_near(),
         verdict: new_verdict(),
+        ..scan
     }
 }
 

@@ -43,9 +43,7 @@ pub fn region(scan: Scan) -> RegionReport
     if n != 0 {
         return RegionReport::Refused(n);
     }
-    let verdict = scan.verdict;
-    let found = verdict.found;
-    RegionReport::Is(found)
+    RegionReport::Is(scan.verdict.found)
 }
 
 // The frames counted since the making, the last rearm or the last reset.
@@ -72,9 +70,7 @@ pub fn correlation(scan: Scan) -> LevelReport
     if n != 0 {
         return LevelReport::Refused(n);
     }
-    let verdict = scan.verdict;
-    let found = verdict.found;
-    LevelReport::Is(correlation_in(found, verdict.last))
+    LevelReport::Is(correlation_in(scan.verdict.found, scan.verdict.last))
 }
 
 // Whether a peak stood at the ceiling.
@@ -88,8 +84,7 @@ pub fn beyond_ceiling(scan: Scan) -> Flag
 pub fn finished(scan: Scan) -> Flag
     ensures { result ≡ is_finished scan }
 {
-    let verdict = scan.verdict;
-    Flag::of(refusal(scan), crate::rules::finished(verdict))
+    Flag::of(refusal(scan), crate::rules::finished(scan.verdict))
 }
 
 // Whether the scan gave up.

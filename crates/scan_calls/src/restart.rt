@@ -9,10 +9,8 @@ fn lengths(slack: u32, g: Geometry, envelope: &[f32], lag_sums: &[f64]) -> bool
     requires { (g.frame < 2 ^ 62) × (g.span < 2 ^ 62) }
     ensures { result ≡ restart_lengths slack g envelope.now lag_sums.now }
 {
-    if envelope.len() as u64 != rules::envelope_len(slack, g) {
-        return false;
-    }
-    lag_sums.len() as u64 == rules::lags(g)
+    envelope.len() as u64 == rules::envelope_len(slack, g)
+        && lag_sums.len() as u64 == rules::lags(g)
 }
 
 fn making_refusal(slack: u32, rate: u32, ceiling: u32, envelope: &[f32], lag_sums: &[f64]) -> u8
@@ -65,6 +63,5 @@ pub fn reset(slack: u32, scan: Scan, envelope: &mut [f32], lag_sums: &mut [f64])
     }
     folds::clear32(envelope);
     folds::clear64(lag_sums);
-    let geometry = scan.geometry;
-    parts::done(parts::as_new(geometry))
+    parts::done(parts::as_new(scan.geometry))
 }

@@ -15,16 +15,7 @@ use scan::{Far, Found, Geometry, Near, Scan, Verdict};
 pub fn in_table(rate: u32, ceiling: u32) -> bool
     ensures { result ≡ in_table rate ceiling }
 {
-    if answers::allowed_rate(rate) {
-        return answers::allowed_ceiling(ceiling);
-    }
-    false
-}
-
-fn at_least_one(n: u64) -> u64
-    ensures { result ≡ max 1 n }
-{
-    if n < 1 { 1 } else { n }
+    answers::allowed_rate(rate) && answers::allowed_ceiling(ceiling)
 }
 
 // So many ms in bins, of which there are `rate` a second.
@@ -33,15 +24,15 @@ fn in_bins(rate: u64, ms: u32) -> u64
     ensures is { result ≡ max 1 (ms * rate / 1000) }
     ensures small { result < 2 ^ 62 }
 {
-    at_least_one(ms as u64 * rate / 1000)
+    (ms as u64 * rate / 1000).max(1)
 }
 
 pub fn geometry_of(rate: u32, ceiling: u32) -> Geometry
     ensures is { result ≡ geometry_of rate ceiling }
     ensures small { (result.frame < 2 ^ 62) × (result.span < 2 ^ 62) }
 {
-    let decimation = at_least_one((rate as u64 + 500) / 1000);
-    let bin_rate = at_least_one(rate as u64 / decimation);
+    let decimation = ((rate as u64 + 500) / 1000).max(1);
+    let bin_rate = (rate as u64 / decimation).max(1);
     Geometry {
         rate,
         ceiling,
@@ -75,22 +66,12 @@ pub fn lags(g: Geometry) -> u64
 fn same_geometry(g: Geometry, h: Geometry) -> bool
     ensures { result ≡ same_geometry g h }
 {
-    if g.decimation != h.decimation {
-        return false;
-    }
-    if g.bin_rate != h.bin_rate {
-        return false;
-    }
-    if g.span != h.span {
-        return false;
-    }
-    if g.frame != h.frame {
-        return false;
-    }
-    if g.ceiling_guard != h.ceiling_guard {
-        return false;
-    }
-    g.peak_guard == h.peak_guard
+    g.decimation == h.decimation
+        && g.bin_rate == h.bin_rate
+        && g.span == h.span
+        && g.frame == h.frame
+        && g.ceiling_guard == h.ceiling_guard
+        && g.peak_guard == h.peak_guard
 }
 
 // Below it a bin times any decimation is below 2^62.
@@ -107,33 +88,23 @@ fn parts_are(n: u64, d: u64, quotient: u64, remainder: u64) -> bool
     if quotient < SURELY_BELOW {
         return quotient * d + remainder == n;
     }
-    if quotient != n / d {
-        return false;
-    }
-    remainder == n % d
+    quotient == n / d && remainder == n % d
 }
 
 fn far_rule(g: Geometry, f: Far) -> bool
     requires { Bounds g }
     ensures { result ≡ far_rule g f }
 {
-    if !parts_are(f.accepted, g.decimation, f.next, f.count) {
-        return false;
-    }
-    if !floats::is_finite(f.sum) {
-        return false;
-    }
-    f.accepted <= answers::LIMIT
+    parts_are(f.accepted, g.decimation, f.next, f.count)
+        && floats::is_finite(f.sum)
+        && f.accepted <= answers::LIMIT
 }
 
 // The near partial count is 0 in a full frame.
 fn whole_if_full(g: Geometry, n: Near) -> bool
     ensures { result ≡ either (not (State.full g n)) (eqb n.count 0) }
 {
-    if n.len != g.frame {
-        return true;
-    }
-    n.count == 0
+    n.len != g.frame || n.count == 0
 }
 
 // bin x decimation < 2^62. The product may not fit, and then a division tells.
@@ -141,10 +112,7 @@ fn starts_below_limit(bin: u64, decimation: u64) -> bool
     requires { (0 < decimation) × (decimation ≤ 192) }
     ensures { result ≡ ltb (bin * decimation) limit }
 {
-    if bin < SURELY_BELOW {
-        return true;
-    }
-    bin <= (answers::LIMIT - 1) / decimation
+    bin < SURELY_BELOW || bin <= (answers::LIMIT - 1) / decimation
 }
 
 // The samples of the frame under way stand where the last index says; first x decimation is below 2^62.
@@ -163,22 +131,12 @@ fn near_rule(g: Geometry, n: Near) -> bool
     requires { Bounds g }
     ensures { result ≡ near_rule g n }
 {
-    if n.count >= g.decimation {
-        return false;
-    }
-    if !whole_if_full(g, n) {
-        return false;
-    }
-    if n.len > g.frame {
-        return false;
-    }
-    if !floats::is_finite(n.sum) {
-        return false;
-    }
-    if !starts_below_limit(n.first, g.decimation) {
-        return false;
-    }
-    in_place(g, n)
+    n.count < g.decimation
+        && whole_if_full(g, n)
+        && n.len <= g.frame
+        && floats::is_finite(n.sum)
+        && starts_below_limit(n.first, g.decimation)
+        && in_place(g, n)
 }
 
 pub fn present(found: Found) -> bool
@@ -194,33 +152,20 @@ pub fn present(found: Found) -> bool
 pub fn finished(v: Verdict) -> bool
     ensures { result ≡ State.finished v }
 {
-    let found = v.found;
-    if present(found) {
-        return true;
-    }
-    v.exhausted
+    present(v.found) || v.exhausted
 }
 
 // Neither a frame nor a block of one is under way.
 pub fn idle(n: Near) -> bool
     ensures { result ≡ State.idle n }
 {
-    if n.count != 0 {
-        return false;
-    }
-    n.len == 0
+    n.count == 0 && n.len == 0
 }
 
 fn verdict_rule(n: Near, v: Verdict) -> bool
     ensures { result ≡ verdict_rule n v }
 {
-    if v.banked >= scan::COARSE_MIN_FRAMES {
-        return false;
-    }
-    if finished(v) {
-        return idle(n);
-    }
-    true
+    v.banked < scan::COARSE_MIN_FRAMES && (!finished(v) || idle(n))
 }
 
 // `due` is what rate and ceiling give.
@@ -228,20 +173,10 @@ fn keeps_rules(scan: Scan, due: Geometry) -> bool
     requires { (due ≡ State.due scan) × (in_table scan.geometry.rate scan.geometry.ceiling ≡ true) }
     ensures { result ≡ keeps_rules scan }
 {
-    let g = scan.geometry;
-    let far = scan.far;
-    let near = scan.near;
-    let v = scan.verdict;
-    if !same_geometry(g, due) {
-        return false;
-    }
-    if !far_rule(g, far) {
-        return false;
-    }
-    if !near_rule(g, near) {
-        return false;
-    }
-    verdict_rule(near, v)
+    same_geometry(scan.geometry, due)
+        && far_rule(scan.geometry, scan.far)
+        && near_rule(scan.geometry, scan.near)
+        && verdict_rule(scan.near, scan.verdict)
 }
 
 // ---- together

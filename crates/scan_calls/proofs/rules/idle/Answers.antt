@@ -2,8 +2,8 @@
 use Rattle.answers.proofs.Cases.{cases}
 use Rattle.scan_calls.proofs.rules.idle.Goals as goal
 
-pub returns-then-n-ne0 : goal.returns-then-n-ne0
-returns-then-n-ne0 c = search (cases)
+pub returns-then-n-eq0 : goal.returns-then-n-eq0
+returns-then-n-eq0 c = search cases
 
-pub returns : goal.returns
-returns c = search (cases)
+pub returns-else-n-eq0 : goal.returns-else-n-eq0
+returns-else-n-eq0 c = search cases

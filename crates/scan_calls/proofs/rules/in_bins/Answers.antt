@@ -15,4 +15,4 @@ pub overflow_mul-ms : goal.overflow_mul-ms
 overflow_mul-ms c = record { fits = fits c }
 
 pub returns : goal.returns
-returns c = record { is = c.at_least_one.ensures; small = omega (arith, fits c.before, c.at_least_one.ensures) }
+returns c = record { is = omega (arith, c.max.ensures); small = omega (arith, fits c.before, c.max.ensures) }

@@ -7,6 +7,6 @@ pub returns-then-allowed_rate : goal.returns-then-allowed_rate
 unfolding in_table
 returns-then-allowed_rate c = search (cases, ← c.allowed_rate.ensures, ← c.allowed_ceiling.ensures)
 
-pub returns : goal.returns
+pub returns-else-allowed_rate : goal.returns-else-allowed_rate
 unfolding in_table
-returns c = search (cases, ← c.allowed_rate.ensures)
+returns-else-allowed_rate c = search (cases, ← c.allowed_rate.ensures)

@@ -17,7 +17,7 @@ pub returns-then-quotient-lt-SURELY_BELOW : goal.returns-then-quotient-lt-SURELY
 returns-then-quotient-lt-SURELY_BELOW c = let a = c.args in told_by_product a.n a.d a.quotient a.remainder c.requires.0 (omega (arith, c.if-d-remainder.false))
 
 pub returns-then-quotient-n : goal.returns-then-quotient-n
-returns-then-quotient-n c = search (cases)
+returns-then-quotient-n c = search cases
 
-pub returns : goal.returns
-returns c = search (cases)
+pub returns-else-quotient-n : goal.returns-else-quotient-n
+returns-else-quotient-n c = search cases

@@ -1,17 +1,16 @@
 -- `scan_calls::rules::verdict_rule` meets its contract: each rule in its order.
-use borrow.Author.Tests.{lt-ltb, le-ltb}
-use Rattle.answers.specs.Pick.{pick}
+use Rattle.answers.proofs.Cases.{cases}
 use Rattle.scan.specs.State.{verdict_rule}
 use Rattle.scan_calls.proofs.rules.verdict_rule.Goals as goal
 
-pub returns-then-v-ge-COARSE_MIN_FRAMES : goal.returns-then-v-ge-COARSE_MIN_FRAMES
-unfolding verdict_rule pick
-returns-then-v-ge-COARSE_MIN_FRAMES c = simp (le-ltb _ _ c.if-v-ge-COARSE_MIN_FRAMES.true)
+pub returns-then-not-finished : goal.returns-then-not-finished
+unfolding verdict_rule
+returns-then-not-finished c = search (cases, ← c.finished.ensures)
 
-pub returns-then-finished : goal.returns-then-finished
-unfolding verdict_rule pick
-returns-then-finished c = simp (← c.finished.ensures, ← c.idle.ensures, lt-ltb _ _ c.if-v-ge-COARSE_MIN_FRAMES.false, c.if-finished.true)
+pub returns-else-not-finished : goal.returns-else-not-finished
+unfolding verdict_rule
+returns-else-not-finished c = search (cases, ← c.finished.ensures, ← c.idle.ensures)
 
-pub returns : goal.returns
-unfolding verdict_rule pick
-returns c = simp (← c.finished.ensures, lt-ltb _ _ c.if-v-ge-COARSE_MIN_FRAMES.false, c.if-finished.false)
+pub returns-else-v-lt-COARSE_MIN_FRAMES : goal.returns-else-v-lt-COARSE_MIN_FRAMES
+unfolding verdict_rule
+returns-else-v-lt-COARSE_MIN_FRAMES c = search cases
