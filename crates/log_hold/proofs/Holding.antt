@@ -1,4 +1,5 @@
 -- A line of the log beside the line that should stand there.
+use Rattle.std.specs.Prelude.{Option, Some, None}
 use Prim.Native.Nat.{ℕ, ◌≤◌, ◌<◌}
 use native.Mathlib.Omega.{arith}
 use mathlib.Core.Path.{◌≡◌, refl, sym, ap, subst, ◌∙◌}
@@ -12,8 +13,6 @@ use Rattle.answers.specs.Pick.{pick, pick_true, pick_false, pick_case}
 use Rattle.log_lines.specs.Lines.{text_of}
 use Rattle.log_lines.specs.Calls.{fits_into, written, written_out}
 use Rattle.log_lines.specs.declared.Line.{Line}
-use Rattle.log_lines.specs.declared.Written.{Written}
-use Rattle.log_lines.specs.declared.Written.TheVariants.{Bytes, NoRoom}
 use Rattle.log_lines.proofs.Answers.{line_short}
 use Rattle.log_text.specs.Text.{same_text}
 use Rattle.log_text.specs.Cut.{longest, first_newline, cut_at, cut_of, Tells}
@@ -40,15 +39,15 @@ module _ (l : Line) (out : List ℕ) (room : length out ≡ 75) where
       yes true e = e
       yes false e = absurd (omega (arith, line_short l, room, leb-false (length (text_of l)) (length out) e))
 
-  pub finds_room : {w : Written} → w ≡ NoRoom → w ≡ written l out → ⊥
+  pub finds_room : {w : Option ℕ} → w ≡ None → w ≡ written l out → ⊥
   unfolding written
-  finds_room {w} n e = let b : NoRoom ≡ Bytes (length (text_of l)) = sym n ∙ e ∙ pick_true _ _ _ fits in clash (cc)
+  finds_room {w} n e = let b : None ≡ Some (length (text_of l)) = sym n ∙ e ∙ pick_true _ _ _ fits in clash (cc)
 
-  pub written_size : {n : ℕ} {w : Written} → w ≡ Bytes n → w ≡ written l out → n ≡ length (text_of l)
+  pub written_size : {n : ℕ} {w : Option ℕ} → w ≡ Some n → w ≡ written l out → n ≡ length (text_of l)
   unfolding written
-  written_size {n} {w} b e = let s : Bytes n ≡ Bytes (length (text_of l)) = sym b ∙ e ∙ pick_true _ _ _ fits in cc
+  written_size {n} {w} b e = let s : Some n ≡ Some (length (text_of l)) = sym b ∙ e ∙ pick_true _ _ _ fits in cc
 
-  pub written_text : {n : ℕ} {w : Written} {out' : List ℕ} → w ≡ Bytes n → w ≡ written l out → out' ≡ written_out l out → take n out' ≡ text_of l
+  pub written_text : {n : ℕ} {w : Option ℕ} {out' : List ℕ} → w ≡ Some n → w ≡ written l out → out' ≡ written_out l out → take n out' ≡ text_of l
   unfolding written_out
   written_text {n} {w} {out'} b e o =
       ap (λ (k : ℕ). take k out') (written_size b e)

@@ -9,7 +9,7 @@ ghost use Rattle.pipes.specs.Window.{Within};
 ghost use Rattle.log_hold.specs.Held.{held, wanting};
 ghost use Rattle.log_hold.specs.Reading.{seen, Sought, Goes, Held};
 
-use log_lines::{Line, Written};
+use log_lines::Line;
 use log_text::Piece;
 use pipes::window;
 use pipes::window::Window;
@@ -53,8 +53,8 @@ fn is_line(line: Line, text: &[u8], room: &mut [u8]) -> bool
     ensures { result ≡ same_text text.now (text_of line) }
 {
     match log_lines::write_line(line, room) {
-        Written::NoRoom => false,
-        Written::Bytes(n) => log_text::same_text(text, &room[..n]),
+        None => false,
+        Some(n) => log_text::same_text(text, &room[..n]),
     }
 }
 

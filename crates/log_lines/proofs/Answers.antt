@@ -1,5 +1,5 @@
 -- The two calls answer what the definitions say: which facts of their steps show it.
-use Rattle.std.proofs.Common.{◌≡◌, ℕ, ◌+◌, ◌<◌, ◌≤◌, true, false, List, ◌++◌, length, take, drop, sym, ap, ◌∙◌, true≢false, arith, length-append, le-leb}
+use Rattle.std.proofs.Common.{◌≡◌, ℕ, ◌+◌, ◌<◌, ◌≤◌, true, false, List, ◌++◌, length, take, drop, Some, None, sym, ap, ◌∙◌, true≢false, arith, length-append, le-leb}
 use lib.Seq.{sets, sets-eq, take-append_seam}
 use borrow.Author.Tests.{lt-leb}
 use Rattle.answers.specs.Pick.{pick_true, pick_false}
@@ -14,8 +14,6 @@ use Rattle.log_lines.specs.declared.Verdict.{Verdict}
 use Rattle.log_lines.specs.declared.Verdict.TheVariants.{Hold, Move, Reacquire}
 use Rattle.log_lines.specs.declared.Trigger.{Trigger}
 use Rattle.log_lines.specs.declared.Trigger.TheVariants.{Edge, Lost, Jump, Seam}
-use Rattle.log_lines.specs.declared.Written.TheVariants.{Bytes, NoRoom}
-use Rattle.log_lines.specs.declared.Read.TheVariants.{Known, NotALogLine}
 use Rattle.log_lines.proofs.Laws.{as_long, decimal_short}
 use Rattle.log_lines.proofs.Guesses.{line_back}
 
@@ -71,43 +69,40 @@ front {out} {after} {text} {n} p h =
     let z : n ≡ length text = omega (arith, p.place) in
     rw (p.bytes, z, at_front text out l) (take-append_seam text _)
 
-pub no_room : (line : Line) (out : List ℕ) (n : ℕ) → n ≡ 0 + length (text_of line) → length out < n → (NoRoom ≡ written line out) × (out ≡ written_out line out)
+pub no_room : (line : Line) (out : List ℕ) (n : ℕ) → n ≡ 0 + length (text_of line) → length out < n → (None ≡ written line out) × (out ≡ written_out line out)
 unfolding written written_out
 no_room line out n e h =
     let no = lt-leb (length (text_of line)) (length out) (omega arith) in
     (sym (pick_false _ _ _ no), sym (pick_false _ _ _ no))
 
 pub room : (line : Line) (out text after : List ℕ) (n k : ℕ) → n ≡ 0 + length (text_of line) → n ≤ length out → text ≡ text_of line → Put out 0 text after k
-    → (Bytes n ≡ written line out) × (after ≡ written_out line out)
+    → (Some n ≡ written line out) × (after ≡ written_out line out)
 unfolding written written_out
 room line out text after n k e h t p =
     let l : length (text_of line) ≤ length out = omega arith in
     let yes = le-leb (length (text_of line)) (length out) l in
     let z : n ≡ length (text_of line) = omega arith in
-    (ap Bytes z ∙ sym (pick_true _ _ _ yes), rw t at p.bytes ∙ at_front (text_of line) out l ∙ sym (pick_true _ _ _ yes))
+    (ap Some z ∙ sym (pick_true _ _ _ yes), rw t at p.bytes ∙ at_front (text_of line) out l ∙ sym (pick_true _ _ _ yes))
 
 -- ---- reading
-
-never : {l : Line} → NotALogLine ≡ Known l → ⊥
-never e = let z : ◌≡◌ {A = ℕ} 0 1 = cc in omega arith
 
 the_line : (text : List ℕ) (g l : Line) → g ≡ guessed (seen_in text) → IsLine text l → g ≡ l
 the_line text g l p i = p ∙ ap (λ (t : List ℕ). guessed (seen_in t)) i.spelt ∙ line_back l i.ranged
 
-pub reads : (text again : List ℕ) (g : Line) → g ≡ guessed (seen_in text) → in_range g ≡ true → again ≡ text_of g → again ≡ text → Reads text (Known g)
+pub reads : (text again : List ℕ) (g : Line) → g ≡ guessed (seen_in text) → in_range g ≡ true → again ≡ text_of g → again ≡ text → Reads text (Some g)
 reads text again g p r t e = record {
   sound = λ l q. let same : g ≡ l = cc in record { spelt = sym e ∙ t ∙ ap text_of same; ranged = rw same at r };
-  whole = λ l i. ap Known (the_line text g l p i);
+  whole = λ l i. ap Some (the_line text g l p i);
 }
 
-pub outside : (text : List ℕ) (g : Line) → g ≡ guessed (seen_in text) → in_range g ≡ false → Reads text NotALogLine
+pub outside : (text : List ℕ) (g : Line) → g ≡ guessed (seen_in text) → in_range g ≡ false → Reads text None
 outside text g p r = record {
-  sound = λ l q. absurd (never q);
+  sound = λ l q. absurd (cc);
   whole = λ l i. absurd (true≢false (sym i.ranged ∙ ap in_range (sym (the_line text g l p i)) ∙ r));
 }
 
-pub differs : (text again : List ℕ) (g : Line) → g ≡ guessed (seen_in text) → again ≡ text_of g → (again ≡ text → ⊥) → Reads text NotALogLine
+pub differs : (text again : List ℕ) (g : Line) → g ≡ guessed (seen_in text) → again ≡ text_of g → (again ≡ text → ⊥) → Reads text None
 differs text again g p t n = record {
-  sound = λ l q. absurd (never q);
+  sound = λ l q. absurd (cc);
   whole = λ l i. absurd (n (t ∙ ap text_of (the_line text g l p i) ∙ sym i.spelt));
 }

@@ -1,7 +1,9 @@
 -- Laws of decimal digits, and of texts put one after the other.
-use Rattle.std.proofs.Common.{◌≡◌, ℕ, zero, suc, ◌+◌, ◌/◌, ◌%◌, ◌^◌, ◌<◌, ◌≤◌, ltb, List, [], ◌∷◌, ◌++◌, length, get_or, drop, set, sym, refl, ap, ◌∙◌, add-zero, div-lt_iff_lt-mul, add-one, arith, length-append, drop_of_length-le, drop-cons, le-ltb, lt-ltb}
+use Rattle.std.proofs.Common.{◌≡◌, ℕ, zero, suc, ◌+◌, ◌/◌, ◌%◌, ◌^◌, ◌<◌, ◌≤◌, ltb, List, [], ◌∷◌, ◌++◌, length, set, append_assoc, sym, refl, ap, ◌∙◌, add-zero, div-lt_iff_lt-mul, arith, length-append, le-ltb, lt-ltb}
 use native.Mathlib.Nat.{pow-succ'}
-use lib.Seq.{sets, length-sets}
+use lib.Seq.{sets, sets-eq, length-sets}
+use Rattle.std.proofs.lemmas.List.{drop-drop}
+use borrow.Rule.Slice.PartMut.{put_mid}
 use Rattle.answers.specs.Pick.{pick, pick_true, pick_false, pick_all}
 use Rattle.log_lines.specs.Text.{digits, decimal}
 use Rattle.log_lines.specs.Steps.{Put}
@@ -68,23 +70,9 @@ put_one out at n d h e = rw (one_digit n h, ← e) (record { bytes = refl; place
 pub put_more : {out mid : List ℕ} {at k : ℕ} (n d : ℕ) → n < 2 ^ 64 → 10 ≤ n → d ≡ 48 + n % 10 → Put out at (decimal (n / 10)) mid k → Put out at (decimal n) (set mid k d) (k + 1)
 put_more n d h l e p = rw (more_digits n h l, ← e) (then p (record { bytes = refl; place = refl }))
 
--- ---- a text put byte by byte
-
--- what is left of it, before and after one byte
-pub put_next : (out : List ℕ) (at i : ℕ) (text : List ℕ) → i < length text → sets (set out (at + i) (get_or text i 0)) (at + (i + 1)) (drop (i + 1) text) ≡ sets out (at + i) (drop i text)
-put_next out at i text h =
-    let e : at + suc i ≡ suc (at + i) = omega arith in
-    rw (drop-cons text i 0, add-one, e)
-
--- all of it is put
-pub put_all : (out out₀ : List ℕ) (at i : ℕ) (text : List ℕ) → i ≤ length text → length text ≤ i → sets out (at + i) (drop i text) ≡ sets out₀ at text → Put out₀ at text out (at + i)
-put_all out out₀ at i text a b e = record {
-  bytes = rw (drop_of_length-le text b) at e;
-  place = omega arith;
-}
-
-pub put_none : (out : List ℕ) (at : ℕ) (text : List ℕ) → sets out (at + 0) (drop 0 text) ≡ sets out at text
-put_none out at text = rw (add-zero at)
+-- a text put in the place of as many bytes
+pub put_part : (out : List ℕ) (at k : ℕ) (text part : List ℕ) → at + length text ≤ length out → k ≡ length text → part ≡ text → put_mid at k out part ≡ sets out at text
+put_part out at k text part h e p = rw (p, e, drop-drop, ← append_assoc) (sym (sets-eq text out at h))
 
 pub number_short : (words : List ℕ) (n : ℕ) → length (words ++ decimal n) ≤ length words + 20
 number_short words n = omega (arith, length-append words (decimal n), decimal_short n)

@@ -1,5 +1,5 @@
 -- The promises of log lines.
-use Rattle.std.proofs.Common.{◌≡◌, ℕ, zero, suc, ◌+◌, ◌/◌, ◌%◌, ◌≤◌, Bool, true, ltb, leb, List, [], ◌∷◌, ◌++◌, length, get_or, take, sym, refl, ap, ◌∙◌, arith, le-leb, leb-true}
+use Rattle.std.proofs.Common.{◌≡◌, ℕ, zero, suc, ◌+◌, ◌/◌, ◌%◌, ◌≤◌, Bool, true, ltb, leb, List, [], ◌∷◌, ◌++◌, length, get_or, take, Option, Some, sym, refl, ap, ◌∙◌, arith, le-leb, leb-true}
 use lib.Seq.{take-append_seam}
 use Rattle.answers.proofs.Passed.{both_true}
 use Rattle.answers.specs.Pick.{pick, both, pick_true, pick_all}
@@ -14,15 +14,13 @@ use Rattle.log_lines.specs.declared.Verdict.{Verdict}
 use Rattle.log_lines.specs.declared.Verdict.TheVariants.{Hold, Move, Reacquire}
 use Rattle.log_lines.specs.declared.Trigger.{Trigger}
 use Rattle.log_lines.specs.declared.Trigger.TheVariants.{Edge, Lost, Jump, Seam}
-use Rattle.log_lines.specs.declared.Read.{Read}
-use Rattle.log_lines.specs.declared.Read.TheVariants.{Known}
 use Rattle.log_lines.specs.Steps.{seen_in, guessed}
 use Rattle.log_lines.proofs.Guesses.{line_back}
 
 -- ---- reading what was written gives the line back
 
-pub read_back : (line : Line) (out : List ℕ) (answer : Read) → in_range line ≡ true → fits_into line out ≡ true →
-    Reads (take (length (text_of line)) (written_out line out)) answer → answer ≡ Known line
+pub read_back : (line : Line) (out : List ℕ) (answer : Option Line) → in_range line ≡ true → fits_into line out ≡ true →
+    Reads (take (length (text_of line)) (written_out line out)) answer → answer ≡ Some line
 unfolding written_out
 read_back line out answer r f h =
     h.whole line (record { spelt = rw (pick_true _ _ _ f) (take-append_seam (text_of line) _); ranged = r })

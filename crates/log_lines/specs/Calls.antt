@@ -1,19 +1,15 @@
 -- What writing and reading a line answer.
-use Rattle.std.specs.Prelude.{◌≡◌, ℕ, Bool, true, List, ◌++◌, length, drop, nat_le}
+use Rattle.std.specs.Prelude.{◌≡◌, ℕ, Bool, true, List, ◌++◌, length, drop, Option, Some, None, nat_le}
 use Rattle.answers.specs.Pick.{pick}
 use Rattle.log_lines.specs.Lines.{text_of, in_range}
 use Rattle.log_lines.specs.declared.Line.{Line}
-use Rattle.log_lines.specs.declared.Written.{Written}
-use Rattle.log_lines.specs.declared.Written.TheVariants.{Bytes, NoRoom}
-use Rattle.log_lines.specs.declared.Read.{Read}
-use Rattle.log_lines.specs.declared.Read.TheVariants.{Known}
 
 abbrev pub fits_into : Line → List ℕ → Bool
 fits_into line out = nat_le (length (text_of line)) (length out)
 
 -- Answers how many bytes of `out` are written, or that there is no room.
-unfoldable pub written : Line → List ℕ → Written
-written line out = pick (fits_into line out) (Bytes (length (text_of line))) NoRoom
+unfoldable pub written : Line → List ℕ → Option ℕ
+written line out = pick (fits_into line out) (Some (length (text_of line))) None
 
 -- Gives `out` afterwards: the text is at its start. Without room nothing is written.
 unfoldable pub written_out : Line → List ℕ → List ℕ
@@ -25,6 +21,6 @@ pub record IsLine (text : List ℕ) (line : Line) : Type 0 where
   pub ranged : in_range line ≡ true
 
 -- A text is read as a line exactly if it is that line's. Any other text is not a log line.
-pub record Reads (text : List ℕ) (answer : Read) : Type 0 where
-  pub sound : (line : Line) → answer ≡ Known line → IsLine text line
-  pub whole : (line : Line) → IsLine text line → answer ≡ Known line
+pub record Reads (text : List ℕ) (answer : Option Line) : Type 0 where
+  pub sound : (line : Line) → answer ≡ Some line → IsLine text line
+  pub whole : (line : Line) → IsLine text line → answer ≡ Some line

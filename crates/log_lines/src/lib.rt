@@ -5,7 +5,7 @@ ghost use Rattle.std.specs.Prelude.{◌≡◌, ◌+◌, ◌%◌, ◌^◌, ◌<�
 ghost use Rattle.log_lines.specs.Text.{decimal};
 ghost use Rattle.log_lines.specs.Lines.{text_of, word_text, verdict_text, trigger_text, in_range, word_in_range, verdict_in_range};
 ghost use Rattle.log_lines.specs.Calls.{written, written_out, Reads};
-ghost use Rattle.log_lines.specs.Steps.{Put, shifted, after_byte, seen_in, guessed};
+ghost use Rattle.log_lines.specs.Steps.{Put, shifted, after_digit, after_byte, seen_in, guessed};
 
 // A frame's answer. A peak and a correlation are bit patterns; a delay is in native samples.
 #[derive(Clone, Copy)]
@@ -51,35 +51,11 @@ pub enum Line {
     BadTotals,
 }
 
-#[derive(Clone, Copy)]
-pub enum Written {
-    Bytes(usize),
-    NoRoom,
-}
-
-#[derive(Clone, Copy)]
-pub enum Read {
-    Known(Line),
-    NotALogLine,
-}
-
-fn wide(x: u32) -> u64
-    ensures { result ≡ x }
-{
-    x as u64
-}
-
-fn wide_byte(x: u8) -> u64
-    ensures { result ≡ x }
-{
-    x as u64
-}
-
 fn digit(n: u64) -> u8
     requires { n < 10 }
     ensures { result ≡ 48 + n }
 {
-    48 + n as u8
+    b'0' + n as u8
 }
 
 // Each `put` writes a text into out from at on, and answers the place after it.
@@ -87,12 +63,9 @@ pub fn put(out: &mut [u8], at: usize, text: &[u8]) -> usize
     requires { at + length text.now ≤ length out.old }
     ensures { Put out.old at text.now out.new result }
 {
-    let mut i = 0;
-    while i < text.len() {
-        out[at + i] = text[i];
-        i += 1;
-    }
-    at + i
+    let end = at + text.len();
+    out[at..end].copy_from_slice(text);
+    end
 }
 
 fn put_decimal(out: &mut [u8], at: usize, n: u64) -> usize
@@ -135,7 +108,7 @@ fn put_word(out: &mut [u8], at: usize, word: Word) -> usize
         Word::Ahead => put(out, at, b" ahead"),
         Word::Quiet => put(out, at, b" quiet"),
         Word::Flat => put(out, at, b" flat"),
-        Word::Banked(peak) => put_number(out, at, b" banked ", wide(peak)),
+        Word::Banked(peak) => put_number(out, at, b" banked ", u64::from(peak)),
         Word::Weak => put(out, at, b" weak"),
         Word::Ceiling => put(out, at, b" ceiling"),
         Word::Crowded => put(out, at, b" crowded"),
@@ -199,9 +172,9 @@ pub fn put_line(out: &mut [u8], line: Line) -> usize
             out,
             0,
             b"replay rate ",
-            wide(rate),
+            u64::from(rate),
             b" ceiling ",
-            wide(ceiling),
+            u64::from(ceiling),
         ),
         Line::Frame(frame, word) => put_frame(out, frame, word),
         Line::Cycle(cycle, verdict) => put_cycle(out, cycle, verdict),
@@ -209,9 +182,9 @@ pub fn put_line(out: &mut [u8], line: Line) -> usize
             out,
             0,
             b"event ",
-            wide(event),
+            u64::from(event),
             b" refused ",
-            wide_byte(number),
+            u64::from(number),
         ),
         Line::End(frames, cycles) => put_numbers(
             out,
@@ -222,22 +195,22 @@ pub fn put_line(out: &mut [u8], line: Line) -> usize
             cycles,
         ),
         Line::BadHeader => put(out, 0, b"bad header"),
-        Line::BadEvent(event) => put_number(out, 0, b"bad event ", wide(event)),
+        Line::BadEvent(event) => put_number(out, 0, b"bad event ", u64::from(event)),
         Line::BadTotals => put(out, 0, b"bad totals"),
     }
 }
 
-// Writes the line's text, without a newline, at the start of out.
-pub fn write_line(line: Line, out: &mut [u8]) -> Written
+// Writes the line's text, without a newline, at the start of out, and answers how many bytes it has, or none without room for it.
+pub fn write_line(line: Line, out: &mut [u8]) -> Option<usize>
     ensures { (result ≡ written line out.old) × (out.new ≡ written_out line out.old) }
 {
     let mut text = [0u8; 75];
     let n = put_line(&mut text, line);
     if out.len() < n {
-        return Written::NoRoom;
+        return None;
     }
     put(out, 0, &text[..n]);
-    Written::Bytes(n)
+    Some(n)
 }
 
 // What the guess at a text's line needs: the sum of the bytes that are not digits, its last three numbers, and whether it ends
@@ -262,40 +235,36 @@ fn shift(v: u64, d: u64) -> u64
     }
 }
 
+fn after_digit(s: Seen, d: u64) -> Seen
+    requires { d < 10 }
+    ensures { result ≡ after_digit s d }
+{
+    if s.inside {
+        Seen {
+            c: shift(s.c, d),
+            ..s
+        }
+    } else {
+        Seen {
+            a: s.b,
+            b: s.c,
+            c: d,
+            inside: true,
+            ..s
+        }
+    }
+}
+
 fn after_byte(s: Seen, byte: u8) -> Seen
     ensures { result ≡ after_byte s byte }
 {
-    let x = wide_byte(byte);
-    if 48 <= x {
-        if x < 58 {
-            let d = x - 48;
-            let inside = s.inside;
-            if inside {
-                let c = s.c;
-                return Seen {
-                    shape: s.shape,
-                    a: s.a,
-                    b: s.b,
-                    c: shift(c, d),
-                    inside: true,
-                };
-            }
-            return Seen {
-                shape: s.shape,
-                a: s.b,
-                b: s.c,
-                c: d,
-                inside: true,
-            };
-        }
-    }
-    let shape = s.shape;
-    Seen {
-        shape: std::num::wrapping_add_u64(shape, x),
-        a: s.a,
-        b: s.b,
-        c: s.c,
-        inside: false,
+    match byte {
+        b'0'..=b'9' => after_digit(s, u64::from(byte - b'0')),
+        _ => Seen {
+            shape: s.shape.wrapping_add(u64::from(byte)),
+            inside: false,
+            ..s
+        },
     }
 }
 
@@ -309,10 +278,8 @@ fn look(text: &[u8]) -> Seen
         c: 0,
         inside: false,
     };
-    let mut i = 0;
-    while i < text.len() {
-        seen = after_byte(seen, text[i]);
-        i += 1;
+    for byte in text {
+        seen = after_byte(seen, *byte);
     }
     seen
 }
@@ -333,11 +300,8 @@ fn low8(n: u64) -> u8
 fn guess(s: Seen) -> Line
     ensures { result ≡ guessed s }
 {
-    let n = s.shape;
-    let a = s.a;
-    let b = s.b;
-    let c = s.c;
-    match n {
+    let Seen { shape, a, b, c, .. } = s;
+    match shape {
         1940 => Line::Replay(low32(b), low32(c)),
         1558 => Line::Frame(c, Word::Uncovered),
         1086 => Line::Frame(c, Word::Ahead),
@@ -392,15 +356,11 @@ fn in_range(line: Line) -> bool
     ensures { result ≡ in_range line }
 {
     match line {
-        Line::Replay(rate, ceiling) => {
-            if !answers::allowed_rate(rate) {
-                return false;
-            }
-            answers::allowed_ceiling(ceiling)
-        }
+        Line::Replay(rate, ceiling) => answers::allowed_rate(rate)
+            && answers::allowed_ceiling(ceiling),
         Line::Frame(_frame, word) => word_in_range(word),
         Line::Cycle(_cycle, verdict) => verdict_in_range(verdict),
-        Line::Refused(_event, number) => answers::within(1, 7, number as u32),
+        Line::Refused(_event, number) => answers::within(1, 7, u32::from(number)),
         Line::End(_frames, _cycles) => true,
         Line::BadHeader => true,
         Line::BadEvent(_event) => true,
@@ -408,19 +368,19 @@ fn in_range(line: Line) -> bool
     }
 }
 
-// Finds the line that has this text.
-pub fn read_line(text: &[u8]) -> Read
+// Finds the line that has this text, if one has.
+pub fn read_line(text: &[u8]) -> Option<Line>
     ensures { Reads text.now result }
 {
     let line = guess(look(text));
     if !in_range(line) {
-        return Read::NotALogLine;
+        return None;
     }
     let mut again = [0u8; 75];
     let n = put_line(&mut again, line);
     if check::same(&again[..n], text) {
-        Read::Known(line)
+        Some(line)
     } else {
-        Read::NotALogLine
+        None
     }
 }

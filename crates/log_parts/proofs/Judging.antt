@@ -1,4 +1,5 @@
 -- The judge's steps, one after the other, are `named_from`.
+use Rattle.std.specs.Prelude.{Option, Some, None}
 use Prim.Native.Nat.{ℕ, ◌+◌, ◌<◌}
 use mathlib.Core.Path.{◌≡◌, refl, sym, ap, ◌∙◌}
 use mathlib.Core.Bool.{Bool, true, false}
@@ -12,8 +13,6 @@ use Rattle.answers.specs.Pick.{pick, both}
 use Rattle.log_lines.specs.Calls.{Reads}
 use Rattle.log_lines.specs.declared.Line.{Line}
 use Rattle.log_lines.specs.declared.Line.TheVariants.{Replay, Frame, Cycle, Refused, End, BadHeader, BadEvent, BadTotals}
-use Rattle.log_lines.specs.declared.Read.{Read}
-use Rattle.log_lines.specs.declared.Read.TheVariants.{Known, NotALogLine}
 use Rattle.log_lines.proofs.Answers.{line_short}
 use Rattle.log_text.specs.Cut.{longest}
 use Rattle.log_parts.specs.Sorts.{sort_of, is_of, number_of}
@@ -31,17 +30,17 @@ pub above_last : (m n : ℕ) → ltb m n ≡ leb (m + 1) n
 above_last m n = rw add-one
 
 -- what the reader's contract admits is what reading answers
-pub read_is : (t : List ℕ) (r : Read) → Reads t r → line_in t ≡ r
-read_is t (Known l) h = (line_read t).whole l (h.sound l refl)
-read_is t NotALogLine h = none (line_in t) refl
+pub read_is : (t : List ℕ) (r : Option Line) → Reads t r → line_in t ≡ r
+read_is t (Some l) h = (line_read t).whole l (h.sound l refl)
+read_is t None h = none (line_in t) refl
   where
-    none : (s : Read) → line_in t ≡ s → line_in t ≡ NotALogLine
-    none (Known l) e = e ∙ sym (h.whole l ((line_read t).sound l e))
-    none NotALogLine e = e
+    none : (s : Option Line) → line_in t ≡ s → line_in t ≡ None
+    none (Some l) e = e ∙ sym (h.whole l ((line_read t).sound l e))
+    none None e = e
 
 -- one text: named as it is judged
 module _ (place : ℕ) (t : List ℕ) (f c : Last) (behind : ℕ → ℕ → Named) where
-  step_line : (l : Line) → named_as place (least_after f) (least_after c) t (Known l) behind ≡ goes_as place t (judged_line f c l) behind
+  step_line : (l : Line) → named_as place (least_after f) (least_after c) t (Some l) behind ≡ goes_as place t (judged_line f c l) behind
   unfolding named_as goes_as judged_line rises next_least is_of sort_of number_of pick least_after
   step_line (Replay r d) = refl
   step_line (Frame n w) = each (leb (least_after f) n)
@@ -60,10 +59,10 @@ module _ (place : ℕ) (t : List ℕ) (f c : Last) (behind : ℕ → ℕ → Nam
   step_line (BadEvent e) = refl
   step_line BadTotals = refl
 
-  step_read : (r : Read) → named_as place (least_after f) (least_after c) t r behind ≡ goes_as place t (judged_read f c r) behind
+  step_read : (r : Option Line) → named_as place (least_after f) (least_after c) t r behind ≡ goes_as place t (judged_read f c r) behind
   unfolding named_as goes_as
-  step_read (Known l) = step_line l
-  step_read NotALogLine = refl
+  step_read (Some l) = step_line l
+  step_read None = refl
 
 -- "are named and the tool stops there": a log is judged text by text, from last numbers that are kept
 pub judge_names : (place : ℕ) (f c : Last) (t : List ℕ) (ts : List (List ℕ)) →
@@ -72,9 +71,9 @@ unfolding named_from judged_text
 judge_names place f c t ts = step_read place t f c (λ m n. named_from (place + 1) m n ts) (line_in t)
 
 -- a text of more than 75 bytes is no log line: what `cut` tells to be too long need not be read on
-pub too_long : (t : List ℕ) → longest < length t → line_in t ≡ NotALogLine
+pub too_long : (t : List ℕ) → longest < length t → line_in t ≡ None
 too_long t h = none (line_in t) refl
   where
-    none : (s : Read) → line_in t ≡ s → line_in t ≡ NotALogLine
-    none (Known l) e = let i = (line_read t).sound l e in absurd (omega (arith, h, line_short l, ap length i.spelt))
-    none NotALogLine e = e
+    none : (s : Option Line) → line_in t ≡ s → line_in t ≡ None
+    none (Some l) e = let i = (line_read t).sound l e in absurd (omega (arith, h, line_short l, ap length i.spelt))
+    none None e = e

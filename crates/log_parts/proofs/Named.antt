@@ -1,4 +1,5 @@
 -- What is named is a log, and every log is named; else the place told is the first that no log goes on with.
+use Rattle.std.specs.Prelude.{Option, Some, None}
 use Prim.Native.Nat.{ℕ, ◌+◌}
 use mathlib.Core.Path.{◌≡◌, refl, sym, ap, subst, ◌∙◌}
 use mathlib.Core.Logic.{◌↔◌}
@@ -14,8 +15,6 @@ use Rattle.log_lines.specs.Lines.{text_of, in_range}
 use Rattle.log_lines.specs.Calls.{IsLine, Reads}
 use Rattle.log_lines.specs.Steps.{seen_in, guessed}
 use Rattle.log_lines.specs.declared.Line.{Line}
-use Rattle.log_lines.specs.declared.Read.{Read}
-use Rattle.log_lines.specs.declared.Read.TheVariants.{Known, NotALogLine}
 use Rattle.log_lines.proofs.Guesses.{line_back}
 use Rattle.log_text.specs.Text.{same_text}
 use Rattle.log_text.proofs.Text.{same_texts, text_itself}
@@ -27,17 +26,17 @@ use Rattle.log_parts.proofs.Merges.{clash}
 
 -- ---- a text that is read is the line's
 
-read_sound : (t : List ℕ) (l : Line) → line_in t ≡ Known l → IsLine t l
+read_sound : (t : List ℕ) (l : Line) → line_in t ≡ Some l → IsLine t l
 unfolding line_in
 read_sound t l e =
-    pick_case (λ (r : Read). r ≡ Known l → IsLine t l) (both (same_text t (text_of (guessed (seen_in t)))) (in_range (guessed (seen_in t)))) _ _
+    pick_case (λ (r : Option Line). r ≡ Some l → IsLine t l) (both (same_text t (text_of (guessed (seen_in t)))) (in_range (guessed (seen_in t)))) _ _
     (λ h e. let b = both_true (same_text t (text_of (guessed (seen_in t)))) (in_range (guessed (seen_in t))) h in
     let is : guessed (seen_in t) ≡ l = cc in
     subst (IsLine t) is (record { spelt = same_texts t (text_of (guessed (seen_in t))) b.0; ranged = b.1 }))
     (λ h e. clash (cc))
     e
 
-read_text : (l : Line) → in_range l ≡ true → line_in (text_of l) ≡ Known l
+read_text : (l : Line) → in_range l ≡ true → line_in (text_of l) ≡ Some l
 unfolding line_in pick
 read_text l r = rw (line_back l r, text_itself (text_of l), r)
 
@@ -68,7 +67,7 @@ rising_off s least l ls r = falling_by least (number_of l) l refl (of_sort s ls)
 
 -- ---- what is named is a log
 
-good_on : (f c : ℕ) (t : List ℕ) (l : Line) (ts : List (List ℕ)) (ls : List Line) → line_in t ≡ Known l → goes_on f c l ≡ true
+good_on : (f c : ℕ) (t : List ℕ) (l : Line) (ts : List (List ℕ)) (ls : List Line) → line_in t ≡ Some l → goes_on f c l ≡ true
     → GoodFrom (next_least Frames f l) (next_least Cycles c l) ts ls → GoodFrom f c (t ∷ ts) (l ∷ ls)
 good_on f c t l ts ls e h g =
     let i = read_sound t l e in
@@ -89,11 +88,11 @@ in_front_lem : (l : Line) (n : Named) (ls : List Line) → in_front l n ≡ Line
 in_front_lem l (Lines rest) ls e = (rest, refl, cc)
 in_front_lem l (NotALog k t) ls e = clash (cc)
 
-good_behind : (place f c : ℕ) (t : List ℕ) (ts : List (List ℕ)) (r : Read) → line_in t ≡ r → (behind : ℕ → ℕ → Named)
+good_behind : (place f c : ℕ) (t : List ℕ) (ts : List (List ℕ)) (r : Option Line) → line_in t ≡ r → (behind : ℕ → ℕ → Named)
     → ((f c : ℕ) (ls : List Line) → behind f c ≡ Lines ls → GoodFrom f c ts ls) → (ls : List Line) → named_as place f c t r behind ≡ Lines ls → GoodFrom f c (t ∷ ts) ls
 unfolding named_as
-good_behind place f c t ts NotALogLine i behind go ls e = clash (cc)
-good_behind place f c t ts (Known l) i behind go ls e =
+good_behind place f c t ts None i behind go ls e = clash (cc)
+good_behind place f c t ts (Some l) i behind go ls e =
     pick_case (λ (n : Named). n ≡ Lines ls → GoodFrom f c (t ∷ ts) ls) (goes_on f c l) _ _
     (λ h e. let p = in_front_lem l _ ls e in subst (GoodFrom f c (t ∷ ts)) p.2 (good_on f c t l ts p.0 i h (go _ _ p.0 p.1)))
     (λ h e. clash (cc))
@@ -108,7 +107,7 @@ good_named place f c (t ∷ ts) ls e = good_behind place f c t ts (line_in t) re
 -- ---- every log is named
 
 -- a line that is read and goes on
-named_on : (place f c : ℕ) (t : List ℕ) (l : Line) (ts : List (List ℕ)) → line_in t ≡ Known l → goes_on f c l ≡ true
+named_on : (place f c : ℕ) (t : List ℕ) (l : Line) (ts : List (List ℕ)) → line_in t ≡ Some l → goes_on f c l ≡ true
     → named_from place f c (t ∷ ts) ≡ in_front l (named_from (place + 1) (next_least Frames f l) (next_least Cycles c l) ts)
 unfolding named_from named_as
 named_on place f c t l ts e h = rw (e, named_as) (pick_true _ _ _ h)
@@ -152,11 +151,11 @@ behind_front : (l : Line) (n : Named) (place : ℕ) (t : List ℕ) → in_front 
 behind_front l (Lines rest) place t e = clash (cc)
 behind_front l (NotALog k u) place t e = e
 
-stops_behind : (from f c : ℕ) (u : List ℕ) (ts : List (List ℕ)) (r : Read) → line_in u ≡ r → ((f c place : ℕ) (t : List ℕ) → named_from (from + 1) f c ts ≡ NotALog place t → Stops f c (from + 1) ts place t)
+stops_behind : (from f c : ℕ) (u : List ℕ) (ts : List (List ℕ)) (r : Option Line) → line_in u ≡ r → ((f c place : ℕ) (t : List ℕ) → named_from (from + 1) f c ts ≡ NotALog place t → Stops f c (from + 1) ts place t)
     → (place : ℕ) (t : List ℕ) → named_as from f c u r (λ f c. named_from (from + 1) f c ts) ≡ NotALog place t → Stops f c from (u ∷ ts) place t
 unfolding named_as named_from pick
-stops_behind from f c u ts NotALogLine i go place t e = stops_here f c from u ts place t e (rw (named_from, i, named_as))
-stops_behind from f c u ts (Known l) i go place t e =
+stops_behind from f c u ts None i go place t e = stops_here f c from u ts place t e (rw (named_from, i, named_as))
+stops_behind from f c u ts (Some l) i go place t e =
     pick_case (λ (n : Named). n ≡ NotALog place t → Stops f c from (u ∷ ts) place t) (goes_on f c l) _ _
     (λ h e. let s = go _ _ place t (behind_front l _ place t e) in
     record {

@@ -1,10 +1,8 @@
 -- A log judged line by line, as code does it: the last number of a sort is kept, and no number past 2^64 - 1 is needed.
-use Rattle.std.specs.Prelude.{ℕ, ◌+◌, List, leb}
+use Rattle.std.specs.Prelude.{ℕ, ◌+◌, List, leb, Option, Some, None}
 use Rattle.answers.specs.Pick.{pick}
 use Rattle.log_lines.specs.declared.Line.{Line}
 use Rattle.log_lines.specs.declared.Line.TheVariants as line
-use Rattle.log_lines.specs.declared.Read.{Read}
-use Rattle.log_lines.specs.declared.Read.TheVariants.{Known, NotALogLine}
 use Rattle.log_parts.specs.Named.{Named, NotALog, in_front, line_in}
 use Rattle.log_parts.specs.declared.Last.{Last}
 use Rattle.log_parts.specs.declared.Last.TheVariants.{Nothing, At}
@@ -26,9 +24,9 @@ judged_line f c line.BadHeader = Good line.BadHeader f c
 judged_line f c (line.BadEvent event) = Good (line.BadEvent event) f c
 judged_line f c line.BadTotals = Good line.BadTotals f c
 
-abbrev pub judged_read : Last → Last → Read → Judged
-judged_read f c (Known l) = judged_line f c l
-judged_read f c NotALogLine = Strange
+abbrev pub judged_read : Last → Last → Option Line → Judged
+judged_read f c (Some l) = judged_line f c l
+judged_read f c None = Strange
 
 unfoldable pub judged_text : Last → Last → List ℕ → Judged
 judged_text f c t = judged_read f c (line_in t)

@@ -1,19 +1,17 @@
 -- Request b: "Lines that are not log lines .. are named and the tool stops there; repeated or falling frame or cycle numbers count as such."
-use Rattle.std.specs.Prelude.{ℕ, ◌+◌, ◌≡◌, Bool, true, List, [], ◌∷◌, ◌++◌, map, leb, length}
+use Rattle.std.specs.Prelude.{ℕ, ◌+◌, ◌≡◌, Bool, true, List, [], ◌∷◌, ◌++◌, map, leb, length, Option, Some, None}
 use Rattle.answers.specs.Pick.{pick, both}
 use Rattle.log_lines.specs.Lines.{text_of, in_range}
 use Rattle.log_lines.specs.Steps.{seen_in, guessed}
 use Rattle.log_lines.specs.declared.Line.{Line}
-use Rattle.log_lines.specs.declared.Read.{Read}
-use Rattle.log_lines.specs.declared.Read.TheVariants.{Known, NotALogLine}
 use Rattle.log_text.specs.Text.{same_text}
 use Rattle.log_parts.specs.Sorts.{is_of, of_sort, number_of, Rising, AllRanged}
 use Rattle.log_parts.specs.declared.Sort.{Sort}
 use Rattle.log_parts.specs.declared.Sort.TheVariants.{Frames, Cycles}
 
 -- what reading a text answers; by `Line-read` it is the one answer that is `Reads`, the rule of SPECIFICATION 12
-unfoldable pub line_in : List ℕ → Read
-line_in t = pick (both (same_text t (text_of (guessed (seen_in t)))) (in_range (guessed (seen_in t)))) (Known (guessed (seen_in t))) NotALogLine
+unfoldable pub line_in : List ℕ → Option Line
+line_in t = pick (both (same_text t (text_of (guessed (seen_in t)))) (in_range (guessed (seen_in t)))) (Some (guessed (seen_in t))) None
 
 -- the lines of a log; or the place of the first text that is none, counted from 1, and that text
 pub data Named : Type 0 where
@@ -36,9 +34,9 @@ abbrev pub goes_on : ℕ → ℕ → Line → Bool
 goes_on frames cycles l = both (rises Frames frames l) (rises Cycles cycles l)
 
 -- one text: what reading it answers, and how the log goes on behind it
-unfoldable pub named_as : ℕ → ℕ → ℕ → List ℕ → Read → (ℕ → ℕ → Named) → Named
-named_as place frames cycles t NotALogLine behind = NotALog place t
-named_as place frames cycles t (Known l) behind =
+unfoldable pub named_as : ℕ → ℕ → ℕ → List ℕ → Option Line → (ℕ → ℕ → Named) → Named
+named_as place frames cycles t None behind = NotALog place t
+named_as place frames cycles t (Some l) behind =
     pick (goes_on frames cycles l) (in_front l (behind (next_least Frames frames l) (next_least Cycles cycles l))) (NotALog place t)
 
 -- the texts from that place on, where frames and cycles have at least these numbers

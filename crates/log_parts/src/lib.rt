@@ -105,8 +105,8 @@ pub fn judge(frames: Last, cycles: Last, text: &[u8]) -> Judged
 {
     let read = log_lines::read_line(text);
     match read {
-        log_lines::Read::Known(line) => judge_line(frames, cycles, line),
-        log_lines::Read::NotALogLine => Judged::Strange,
+        Some(line) => judge_line(frames, cycles, line),
+        None => Judged::Strange,
     }
 }
 

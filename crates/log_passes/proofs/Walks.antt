@@ -1,4 +1,5 @@
 -- A host that goes by `pass_next` comes to the merge of the two logs' lines of that sort.
+use Rattle.std.specs.Prelude.{Option, Some, None}
 use Prim.Native.Nat.{ℕ, zero, suc, ◌+◌, ◌^◌, ◌≤◌, ◌<◌}
 use mathlib.Core.Path.{◌≡◌, refl, sym, ap, subst, ◌∙◌}
 use mathlib.Core.Bool.{Bool}
@@ -8,8 +9,6 @@ use lib.ListN.{length, take, drop}
 use Rattle.answers.specs.Numbers.{next_long_count}
 use Rattle.answers.specs.Pick.{pick_true, pick_false, pick_case}
 use Rattle.log_lines.specs.declared.Line.{Line}
-use Rattle.log_lines.specs.declared.Read.{Read}
-use Rattle.log_lines.specs.declared.Read.TheVariants as read
 use Rattle.log_text.specs.Text.{lines_of}
 use Rattle.log_text.specs.Cut.{Behind}
 use Rattle.log_parts.specs.Sorts.{is_of, of_sort, same_line}
@@ -41,9 +40,9 @@ use Rattle.log_passes.proofs.Hands.{Took, took}
 
 -- ---- the lines of a text, a text that is none left out: in a log there is none
 
-abbrev known_by : Read → List Line → List Line
-known_by (read.Known l) ls = l ∷ ls
-known_by read.NotALogLine ls = ls
+abbrev known_by : Option Line → List Line → List Line
+known_by (Some l) ls = l ∷ ls
+known_by None ls = ls
 
 unfoldable pub known : List (List ℕ) → List Line
 known [] = []
@@ -73,13 +72,13 @@ unfolding of_sort
 none_of s = refl
 
 module _ (s : Sort) (hand more : List ℕ) where
-  read_finds : (used : ℕ) (r : Read) → lines s (hand ++ more) ≡ of_sort s (known_by r (known (lines_of (drop used hand ++ more)))) → Finds s hand more (sought_read s used r)
+  read_finds : (used : ℕ) (r : Option Line) → lines s (hand ++ more) ≡ of_sort s (known_by r (known (lines_of (drop used hand ++ more)))) → Finds s hand more (sought_read s used r)
   unfolding sought_read sought_line of_sort
-  read_finds used (read.Known l) e =
+  read_finds used (Some l) e =
       pick_case (Finds s hand more) (is_of s l) _ _
       (λ h. e ∙ pick_true _ _ _ h)
       (λ h. e ∙ pick_false _ _ _ h)
-  read_finds used read.NotALogLine e = record {}
+  read_finds used None e = record {}
 
   finds : (t : Taken) → Took hand more t → Finds s hand more (sought_in s hand t)
   unfolding sought_in known

@@ -1,11 +1,9 @@
 -- Two logs from the bytes at hand, by one sort of lines.
-use Rattle.std.specs.Prelude.{ℕ, Bool, List, [], take}
+use Rattle.std.specs.Prelude.{ℕ, Bool, List, [], take, Option, Some, None}
 use Rattle.answers.specs.Numbers.{next_long_count}
 use Rattle.answers.specs.Pick.{pick}
 use Rattle.log_lines.specs.Lines.{text_of}
 use Rattle.log_lines.specs.declared.Line.{Line}
-use Rattle.log_lines.specs.declared.Read.{Read}
-use Rattle.log_lines.specs.declared.Read.TheVariants as read
 use Rattle.log_text.specs.Text.{same_text}
 use Rattle.log_parts.specs.Sorts.{is_of, number_of}
 use Rattle.log_parts.specs.Named.{line_in}
@@ -37,9 +35,9 @@ use Rattle.log_passes.specs.declared.passing.Step.{Step}
 unfoldable pub sought_line : Sort → ℕ → Line → Found
 sought_line s used l = pick (is_of s l) (found.Here l used) (found.Other used)
 
-unfoldable pub sought_read : Sort → ℕ → Read → Found
-sought_read s used (read.Known l) = sought_line s used l
-sought_read s used read.NotALogLine = found.Strange
+unfoldable pub sought_read : Sort → ℕ → Option Line → Found
+sought_read s used (Some l) = sought_line s used l
+sought_read s used None = found.Strange
 
 unfoldable pub sought_in : Sort → List ℕ → Taken → Found
 sought_in s bytes (taken.Text n used) = sought_read s used (line_in (take n bytes))

@@ -9,7 +9,7 @@ ghost use Rattle.log_passes.specs.Passing.{front_at, side_text, turn_at, sought_
 
 use crate::taking;
 use crate::taking::Taken;
-use log_lines::{Line, Read};
+use log_lines::Line;
 use log_parts::{First, Front, Side, Sort, Tally, Turn};
 
 // The next line of the sort in one log is still sought, or this stands there.
@@ -120,8 +120,8 @@ fn sought_text(sort: Sort, used: usize, text: &[u8]) -> Found
 {
     let read = log_lines::read_line(text);
     match read {
-        Read::Known(line) => sought_line(sort, used, line),
-        Read::NotALogLine => Found::Strange,
+        Some(line) => sought_line(sort, used, line),
+        None => Found::Strange,
     }
 }
 

@@ -1,10 +1,8 @@
 -- Request b: "names the first differing line of each sort .. with both texts, then the number of differing frames and cycles by number .. Equal logs give the single line `same`".
-use Rattle.std.specs.Prelude.{ℕ, Bool, true, false, List, [], ◌∷◌, ◌++◌, leb, length, take}
+use Rattle.std.specs.Prelude.{ℕ, Bool, true, false, List, [], ◌∷◌, ◌++◌, leb, length, take, Option, Some, None}
 use Rattle.answers.specs.Pick.{pick, both}
 use Rattle.log_lines.specs.Text.{ascii, decimal}
 use Rattle.log_lines.specs.Lines.{text_of}
-use Rattle.log_lines.specs.declared.Read.{Read}
-use Rattle.log_lines.specs.declared.Read.TheVariants.{Known, NotALogLine}
 use Rattle.log_text.specs.Text.{newline}
 use Rattle.log_text.specs.Cut.{longest}
 use Rattle.log_parts.specs.Named.{line_in}
@@ -68,9 +66,9 @@ report_text r = sections_text r ++ order_text r ++ counts_text r.differing_frame
 -- ---- a line that is none of a log: its file and place, and the line, of which no more is shown than a line of a log can have
 
 -- a line of a log is refused only because its number does not rise
-abbrev pub why_by : Read → List ℕ
-why_by (Known l) = ascii "number does not rise: "
-why_by NotALogLine = []
+abbrev pub why_by : Option Line → List ℕ
+why_by (Some l) = ascii "number does not rise: "
+why_by None = []
 
 unfoldable pub why_text : List ℕ → List ℕ
 why_text t = why_by (line_in t)

@@ -7,7 +7,7 @@ ghost use Rattle.log_lines.specs.Steps.{Put};
 ghost use Rattle.log_report.specs.Texts.{side_words, marked_text, differ_text, section_text, sections_text, alike, all_alike, order_text, counts_text, report_text, why_text, shown_text, where_text, strange_text, place_text};
 ghost use Rattle.log_report.specs.Calls.{reported, reported_out, refused_as, refused_out};
 
-use log_lines::{Line, Read, Written};
+use log_lines::Line;
 use log_parts::{First, Report, Side};
 
 // ---- the two lines that differ
@@ -150,14 +150,14 @@ fn put_report(out: &mut [u8], report: Report) -> usize
 }
 
 // Writes where two logs part, at the start of out, which must have 1,024 bytes or more.
-pub fn write_report(report: Report, out: &mut [u8]) -> Written
+pub fn write_report(report: Report, out: &mut [u8]) -> Option<usize>
     ensures { (result ≡ reported report out.old) × (out.new ≡ reported_out report out.old) }
 {
     if out.len() < 1024 {
-        return Written::NoRoom;
+        return None;
     }
     let n = put_report(out, report);
-    Written::Bytes(n)
+    Some(n)
 }
 
 // ---- a line that is none of a log
@@ -169,8 +169,8 @@ fn put_why(out: &mut [u8], at: usize, text: &[u8]) -> usize
 {
     let read = log_lines::read_line(text);
     match read {
-        Read::Known(_line) => log_lines::put(out, at, b"number does not rise: "),
-        Read::NotALogLine => at,
+        Some(_line) => log_lines::put(out, at, b"number does not rise: "),
+        None => at,
     }
 }
 
@@ -207,15 +207,15 @@ fn put_strange(out: &mut [u8], name: &[u8], place: u64, text: &[u8]) -> usize
 }
 
 // Writes which line of which file is none of a log, at the start of out, which must have 140 bytes more than the name.
-pub fn write_refusal(name: &[u8], place: u64, text: &[u8], out: &mut [u8]) -> Written
+pub fn write_refusal(name: &[u8], place: u64, text: &[u8], out: &mut [u8]) -> Option<usize>
     ensures { (result ≡ refused_as name.now place text.now out.old) × (out.new ≡ refused_out name.now place text.now out.old) }
 {
     if out.len() < 140 {
-        return Written::NoRoom;
+        return None;
     }
     if out.len() - 140 < name.len() {
-        return Written::NoRoom;
+        return None;
     }
     let n = put_strange(out, name, place, text);
-    Written::Bytes(n)
+    Some(n)
 }

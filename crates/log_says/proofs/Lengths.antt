@@ -1,4 +1,5 @@
 -- No text is longer than the room that its writer asks for.
+use Rattle.std.specs.Prelude.{Some, None}
 use Prim.Native.Nat.{ℕ, ◌≤◌, ◌<◌}
 use mathlib.Core.Path.{◌≡◌, refl, sym, ap, ◌∙◌}
 use mathlib.Core.List.{List, [], ◌++◌}
@@ -10,7 +11,6 @@ use borrow.Author.Tests.{le-leb, lt-leb, leb-true, leb-false}
 use Rattle.answers.specs.Pick.{pick, pick_true, pick_false, pick_case}
 use Rattle.log_lines.specs.Text.{ascii}
 use Rattle.log_lines.specs.Steps.{Put}
-use Rattle.log_lines.specs.declared.Written.TheVariants.{Bytes, NoRoom}
 use Rattle.log_lines.proofs.Laws.{decimal_short}
 use Rattle.log_text.specs.Apart.{Side, Nothing, There}
 use Rattle.log_text.specs.Cut.{longest}
@@ -40,12 +40,12 @@ put_nothing out at = record { bytes = refl; place = omega arith }
 
 module _ (n : ℕ) (out text : List ℕ) where
   pub told_all : (after : List ℕ) (end : ℕ) → n ≤ length out → Put out 0 text after end
-      → (Bytes end ≡ pick (leb n (length out)) (Bytes (length text)) NoRoom) × (after ≡ pick (leb n (length out)) (sets out 0 text) out)
+      → (Some end ≡ pick (leb n (length out)) (Some (length text)) None) × (after ≡ pick (leb n (length out)) (sets out 0 text) out)
   told_all after end h p =
       let yes = le-leb n (length out) h in
-      (ap Bytes (p.place ∙ omega arith) ∙ sym (pick_true _ _ _ yes), p.bytes ∙ sym (pick_true _ _ _ yes))
+      (ap Some (p.place ∙ omega arith) ∙ sym (pick_true _ _ _ yes), p.bytes ∙ sym (pick_true _ _ _ yes))
 
-  pub told_none : length out < n → (NoRoom ≡ pick (leb n (length out)) (Bytes (length text)) NoRoom) × (out ≡ pick (leb n (length out)) (sets out 0 text) out)
+  pub told_none : length out < n → (None ≡ pick (leb n (length out)) (Some (length text)) None) × (out ≡ pick (leb n (length out)) (sets out 0 text) out)
   told_none h =
       let no = lt-leb n (length out) h in
       (sym (pick_false _ _ _ no), sym (pick_false _ _ _ no))

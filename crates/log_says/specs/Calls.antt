@@ -1,10 +1,8 @@
 -- What the writer of a verdict answers and leaves: all of the text, or nothing where there is too little room for any.
-use Rattle.std.specs.Prelude.{ℕ, Bool, List, [], leb, length, take}
+use Rattle.std.specs.Prelude.{ℕ, Bool, List, [], leb, length, take, Option, Some, None}
 use Rattle.std.proofs.lemmas.List.Edits.{sets}
 use Rattle.answers.specs.Pick.{pick}
 use Rattle.log_lines.specs.Lines.{text_of}
-use Rattle.log_lines.specs.declared.Written.{Written}
-use Rattle.log_lines.specs.declared.Written.TheVariants.{Bytes, NoRoom}
 use Rattle.log_text.specs.Apart.{Side, Nothing, There, Same, At}
 use Rattle.log_text.specs.Cut.{cut_of}
 use Rattle.log_text.specs.declared.Piece.{Piece}
@@ -41,8 +39,8 @@ said_text line (verdict.Wrong d) hand ended = apart_text (At line (side_at hand 
 abbrev pub room : ℕ
 room = 256
 
-unfoldable pub said : ℕ → Verdict → List ℕ → Bool → List ℕ → Written
-said line v hand ended out = pick (leb room (length out)) (Bytes (length (said_text line v hand ended))) NoRoom
+unfoldable pub said : ℕ → Verdict → List ℕ → Bool → List ℕ → Option ℕ
+said line v hand ended out = pick (leb room (length out)) (Some (length (said_text line v hand ended))) None
 
 unfoldable pub said_out : ℕ → Verdict → List ℕ → Bool → List ℕ → List ℕ
 said_out line v hand ended out = pick (leb room (length out)) (sets out 0 (said_text line v hand ended)) out

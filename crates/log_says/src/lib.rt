@@ -9,7 +9,7 @@ ghost use Rattle.log_says.specs.Says.{place_text, shown_text, stands_text, shoul
 ghost use Rattle.log_says.specs.Calls.{due_side, side_at, said_text, said, said_out};
 
 use log_hold::{Due, Verdict};
-use log_lines::{Line, Written};
+use log_lines::Line;
 use log_text::Piece;
 
 fn put_place(out: &mut [u8], line: u64) -> usize
@@ -110,12 +110,12 @@ pub fn write_verdict(
     hand: &[u8],
     ended: bool,
     out: &mut [u8],
-) -> Written
+) -> Option<usize>
     ensures { (result ≡ said line verdict hand.now ended out.old) × (out.new ≡ said_out line verdict hand.now ended out.old) }
 {
     if out.len() < 256 {
-        return Written::NoRoom;
+        return None;
     }
     let n = put_verdict(out, line, verdict, hand, ended);
-    Written::Bytes(n)
+    Some(n)
 }

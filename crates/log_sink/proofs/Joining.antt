@@ -1,4 +1,5 @@
 -- A line behind what is held, and its newline.
+use Rattle.std.specs.Prelude.{Option, Some, None}
 use Prim.Native.Nat.{ℕ, ◌+◌, ◌-◌, ◌≤◌, ◌<◌}
 use native.Mathlib.Omega.{arith}
 use native.Mathlib.Numerals.{add-one}
@@ -13,8 +14,6 @@ use Rattle.answers.specs.Pick.{both, either, pick_true, pick_case}
 use Rattle.log_lines.specs.Lines.{text_of}
 use Rattle.log_lines.specs.Calls.{fits_into, written, written_out}
 use Rattle.log_lines.specs.declared.Line.{Line}
-use Rattle.log_lines.specs.declared.Written.{Written}
-use Rattle.log_lines.specs.declared.Written.TheVariants.{Bytes, NoRoom}
 use Rattle.log_lines.proofs.Answers.{line_short}
 use Rattle.log_sink.specs.Sink.{complaint, Joined}
 use Rattle.log_sink.specs.declared.Text.{Text}
@@ -37,18 +36,18 @@ clash : {A : Type 0} → ◌≡◌ {A = ℕ} 0 1 → A
 clash z = absurd (omega (arith, z))
 
 module _ (l : Line) (out : List ℕ) where
-  pub fits_bytes : (n : ℕ) → Bytes n ≡ written l out → (fits_into l out ≡ true) × (n ≡ length (text_of l))
+  pub fits_bytes : (n : ℕ) → Some n ≡ written l out → (fits_into l out ≡ true) × (n ≡ length (text_of l))
   unfolding written
   fits_bytes n e =
-      pick_case (λ (w : Written). Bytes n ≡ w → (fits_into l out ≡ true) × (n ≡ length (text_of l))) (fits_into l out) _ _
+      pick_case (λ (w : Option ℕ). Some n ≡ w → (fits_into l out ≡ true) × (n ≡ length (text_of l))) (fits_into l out) _ _
       (λ t e. (t, cc))
       (λ t e. clash (cc))
       e
 
-  pub fits_none : NoRoom ≡ written l out → fits_into l out ≡ false
+  pub fits_none : None ≡ written l out → fits_into l out ≡ false
   unfolding written
   fits_none e =
-      pick_case (λ (w : Written). NoRoom ≡ w → fits_into l out ≡ false) (fits_into l out) _ _
+      pick_case (λ (w : Option ℕ). None ≡ w → fits_into l out ≡ false) (fits_into l out) _ _
       (λ t e. clash (cc))
       (λ t e. t)
       e
@@ -72,7 +71,7 @@ line_behind l h room inside f =
 pub written_long : (l : Line) (h : ℕ) (room : List ℕ) → h ≤ length room → fits_into l (drop h room) ≡ true → h + length (text_of l) ≤ length room
 written_long l h room inside f = omega (arith, leb-true (length (text_of l)) (length (drop h room)) f, length-drop h room)
 
-pub joins_line : (l : Line) (t t' : Text) (room room1 room' : List ℕ) (n : ℕ) → t.held ≤ length room → Bytes n ≡ written l (drop t.held room) → room1 ≡ take t.held room ++ written_out l (drop t.held room)
+pub joins_line : (l : Line) (t t' : Text) (room room1 room' : List ℕ) (n : ℕ) → t.held ≤ length room → Some n ≡ written l (drop t.held room) → room1 ≡ take t.held room ++ written_out l (drop t.held room)
     → length room1 ≡ length room
     → t'.held ≤ length room' → (t'.good ≡ true → take t'.held room' ≡ take (t.held + n) room1 ++ 10 ∷ []) → (t'.good ≡ true → t'.amiss ≡ either t.amiss (complaint l))
     → (t.held + n < length room1 → t'.good ≡ t.good) → Joined t room l t' room'
@@ -86,7 +85,7 @@ joins_line l t t' room room1 room' n inside e is size inside' joins amiss finds 
       finds = λ r. finds (omega (arith, r, size, fits.1, line_short l));
     }
 
-pub joins_lost : (l : Line) (t t' : Text) (room room' : List ℕ) → NoRoom ≡ written l (drop t.held room) → t'.held ≤ length room' → (t'.good ≡ true → ⊥) → Joined t room l t' room'
+pub joins_lost : (l : Line) (t t' : Text) (room room' : List ℕ) → None ≡ written l (drop t.held room) → t'.held ≤ length room' → (t'.good ≡ true → ⊥) → Joined t room l t' room'
 joins_lost l t t' room room' e inside bad =
     record {
       inside = inside;

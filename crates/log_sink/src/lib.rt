@@ -7,7 +7,7 @@ ghost use Rattle.log_lines.specs.Calls.{written, written_out};
 ghost use Rattle.answers.specs.Pick.{both, either};
 ghost use Rattle.log_sink.specs.Sink.{complaint, Joined, Wrote};
 
-use log_lines::{Line, Written};
+use log_lines::Line;
 use pipes::reason::Reason;
 use pipes::told::Watch;
 use pipes::{reason, told};
@@ -108,7 +108,7 @@ fn ended(text: Text, room: &mut [u8], n: usize, complaint: bool) -> Text
 }
 
 // The line alone, behind the first bytes of the room.
-fn write_behind(line: Line, room: &mut [u8], held: usize) -> Written
+fn write_behind(line: Line, room: &mut [u8], held: usize) -> Option<usize>
     requires { held ≤ length room.old }
     ensures { (result ≡ written line (drop held room.old)) × (room.new ≡ take held room.old ++ written_out line (drop held room.old)) }
 {
@@ -122,8 +122,8 @@ fn put(text: Text, line: Line, room: &mut [u8]) -> Text
 {
     let held = text.held;
     match write_behind(line, room, held) {
-        Written::NoRoom => lost(text),
-        Written::Bytes(n) => ended(text, room, n, complains(line)),
+        None => lost(text),
+        Some(n) => ended(text, room, n, complains(line)),
     }
 }
 

@@ -5,7 +5,6 @@
 ghost use Rattle.std.specs.Prelude.{◌≡◌, length};
 ghost use Rattle.pipes.specs.Window.{Within};
 
-use log_lines::Written;
 use log_parts::{First, Report, Sort};
 use log_passes::beside::Ask;
 use log_passes::judging::Look;
@@ -31,10 +30,10 @@ pub enum Outcome {
 }
 
 // A text that found room is written out.
-fn tell(written: Written, text: &[u8], out: Stdout, done: Outcome) -> Outcome {
+fn tell(written: Option<usize>, text: &[u8], out: Stdout, done: Outcome) -> Outcome {
     match written {
-        Written::NoRoom => Outcome::Unwritten(reason::none()),
-        Written::Bytes(n) => tell_first(n, text, out, done),
+        None => Outcome::Unwritten(reason::none()),
+        Some(n) => tell_first(n, text, out, done),
     }
 }
 

@@ -6,7 +6,7 @@ ghost use Rattle.pipes.specs.Window.{Within};
 ghost use Rattle.replay_sink.specs.Sink.{Fits};
 
 use log_hold::{Check, Verdict};
-use log_lines::{Line, Written};
+use log_lines::Line;
 use log_sink::Text;
 use pipes::reason::Reason;
 use pipes::told::Watch;
@@ -61,8 +61,8 @@ fn say_in(
     text: &mut [u8],
 ) -> Result<(), Reason> {
     match log_says::write_verdict(line, verdict, hand, ended, text) {
-        Written::NoRoom => Err(reason::none()),
-        Written::Bytes(n) => write_first(out, n, text, watched),
+        None => Err(reason::none()),
+        Some(n) => write_first(out, n, text, watched),
     }
 }
 

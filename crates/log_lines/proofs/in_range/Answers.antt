@@ -6,13 +6,13 @@ use Rattle.log_lines.specs.Lines.{bits}
 use Rattle.log_lines.proofs.Ranges.{bits_first}
 use Rattle.log_lines.proofs.in_range.Goals as goal
 
-pub returns-then-not-allowed_rate : goal.returns-then-not-allowed_rate
+pub returns-then-allowed_rate : goal.returns-then-allowed_rate
 unfolding in_range
-returns-then-not-allowed_rate c = rw c.in-Replay.is (sym (pick_false _ _ _ (sym c.allowed_rate.ensures ∙ c.if-not-allowed_rate.true)))
+returns-then-allowed_rate c = rw c.in-Replay.is (c.allowed_ceiling.ensures ∙ sym (pick_true _ _ _ (sym c.allowed_rate.ensures ∙ c.if-allowed_rate.true)))
 
-pub returns-else-not-allowed_rate : goal.returns-else-not-allowed_rate
+pub returns-else-allowed_rate : goal.returns-else-allowed_rate
 unfolding in_range
-returns-else-not-allowed_rate c = rw c.in-Replay.is (c.allowed_ceiling.ensures ∙ sym (pick_true _ _ _ (sym c.allowed_rate.ensures ∙ c.if-not-allowed_rate.false)))
+returns-else-allowed_rate c = rw c.in-Replay.is (c.if-allowed_rate.false ∙ sym (pick_false _ _ _ (sym c.allowed_rate.ensures ∙ c.if-allowed_rate.false)))
 
 pub returns-in-Frame : goal.returns-in-Frame
 unfolding in_range
@@ -24,7 +24,7 @@ returns-in-Cycle c = rw c.in-Cycle.is (c.verdict_in_range.ensures ∙ bits_first
 
 pub returns-in-Refused : goal.returns-in-Refused
 unfolding in_range
-returns-in-Refused c = rw c.in-Refused.is (c.within.ensures ∙ bits_first 32 _ _ (omega arith))
+returns-in-Refused c = rw c.in-Refused.is (rw c.from.ensures at c.within.ensures ∙ bits_first 32 _ _ (omega arith))
 
 pub returns-in-End : goal.returns-in-End
 unfolding in_range

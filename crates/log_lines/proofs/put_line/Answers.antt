@@ -4,7 +4,7 @@ use Rattle.log_lines.proofs.put_line.Goals as goal
 
 pub returns-in-Replay : goal.returns-in-Replay
 unfolding text_of
-returns-in-Replay c = rw c.in-Replay.is (rw (c.wide-in-Replay.ensures, c.wide.ensures) at c.put_numbers.ensures)
+returns-in-Replay c = rw c.in-Replay.is (rw (c.from.ensures, c.from-in-Replay.ensures) at c.put_numbers.ensures)
 
 pub returns-in-Frame : goal.returns-in-Frame
 unfolding text_of
@@ -16,7 +16,7 @@ returns-in-Cycle c = rw c.in-Cycle.is c.put_cycle.ensures
 
 pub returns-in-Refused : goal.returns-in-Refused
 unfolding text_of
-returns-in-Refused c = rw c.in-Refused.is (rw (c.wide_byte.ensures, c.wide-in-Refused.ensures) at c.put_numbers-in-Refused.ensures)
+returns-in-Refused c = rw c.in-Refused.is (rw (c.from-in-Refused.ensures, c.from-in-Refused-2.ensures) at c.put_numbers-in-Refused.ensures)
 
 pub returns-in-End : goal.returns-in-End
 unfolding text_of
@@ -28,7 +28,7 @@ returns-in-BadHeader c = rw c.in-BadHeader.is c.put.ensures
 
 pub returns-in-BadEvent : goal.returns-in-BadEvent
 unfolding text_of
-returns-in-BadEvent c = rw c.in-BadEvent.is (rw c.wide-in-BadEvent.ensures at c.put_number.ensures)
+returns-in-BadEvent c = rw c.in-BadEvent.is (rw c.from-in-BadEvent.ensures at c.put_number.ensures)
 
 pub returns-in-BadTotals : goal.returns-in-BadTotals
 unfolding text_of

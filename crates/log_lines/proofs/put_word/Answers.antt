@@ -20,7 +20,7 @@ returns-in-Flat c = rw c.in-Flat.is c.put-in-Flat.ensures
 
 pub returns-in-Banked : goal.returns-in-Banked
 unfolding word_text
-returns-in-Banked c = rw c.in-Banked.is (rw c.wide.ensures at c.put_number.ensures)
+returns-in-Banked c = rw c.in-Banked.is (rw c.from.ensures at c.put_number.ensures)
 
 pub returns-in-Weak : goal.returns-in-Weak
 unfolding word_text

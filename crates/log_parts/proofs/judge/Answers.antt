@@ -3,10 +3,10 @@ use Rattle.log_parts.specs.Judged.{judged_text}
 use Rattle.log_parts.proofs.Judging.{read_is}
 use Rattle.log_parts.proofs.judge.Goals as goal
 
-pub returns-in-Known : goal.returns-in-Known
+pub returns-in-Some : goal.returns-in-Some
 unfolding judged_text
-returns-in-Known c = rw (read_is _ _ c.read_line-read.ensures, c.in-Known.is) c.judge_line.ensures
+returns-in-Some c = rw (read_is _ _ c.read_line-read.ensures, c.in-Some.is) c.judge_line.ensures
 
-pub returns-in-NotALogLine : goal.returns-in-NotALogLine
+pub returns-in-None : goal.returns-in-None
 unfolding judged_text
-returns-in-NotALogLine c = rw (read_is _ _ c.read_line-read.ensures, c.in-NotALogLine.is)
+returns-in-None c = rw (read_is _ _ c.read_line-read.ensures, c.in-None.is)

@@ -4,10 +4,10 @@ use Rattle.log_report.proofs.Lengths.{put_nothing}
 use Rattle.log_report.specs.Texts.{why_text}
 use Rattle.log_report.proofs.put_why.Goals as goal
 
-pub returns-in-Known : goal.returns-in-Known
+pub returns-in-Some : goal.returns-in-Some
 unfolding why_text
-returns-in-Known c = rw (read_is _ _ c.read_line-read.ensures, c.in-Known.is) c.put.ensures
+returns-in-Some c = rw (read_is _ _ c.read_line-read.ensures, c.in-Some.is) c.put.ensures
 
-pub returns-in-NotALogLine : goal.returns-in-NotALogLine
+pub returns-in-None : goal.returns-in-None
 unfolding why_text
-returns-in-NotALogLine c = rw (read_is _ _ c.read_line-read.ensures, c.in-NotALogLine.is) (put_nothing _ _)
+returns-in-None c = rw (read_is _ _ c.read_line-read.ensures, c.in-None.is) (put_nothing _ _)
