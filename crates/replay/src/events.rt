@@ -11,29 +11,17 @@ use tracker::Tracker;
 pub fn with_scan(session: Session, scan: Scan) -> Session
     ensures { result ≡ with_scan session scan }
 {
-    let tracker = session.tracker;
-    let used = session.used;
-    Session {
-        scan,
-        tracker,
-        frames: session.frames,
-        cycles: session.cycles,
-        used,
-    }
+    Session { scan, ..session }
 }
 
 // The scan after one frame more.
 pub fn with_frame(session: Session, scan: Scan) -> Session
     ensures { result ≡ with_frame session scan }
 {
-    let tracker = session.tracker;
-    let used = session.used;
     Session {
         scan,
-        tracker,
         frames: answers::next_long_count(session.frames),
-        cycles: session.cycles,
-        used,
+        ..session
     }
 }
 
@@ -41,27 +29,21 @@ pub fn with_frame(session: Session, scan: Scan) -> Session
 pub fn next_with_scan(session: Session, used: Used, scan: Scan) -> Session
     ensures { result ≡ with_scan (with_used session used) scan }
 {
-    let tracker = session.tracker;
-    let frames = session.frames;
     Session {
         scan,
-        tracker,
-        frames,
-        cycles: session.cycles,
         used,
+        ..session
     }
 }
 
 pub fn next_with_tracker(session: Session, used: Used, tracker: Tracker, cycles: u64) -> Session
     ensures { result ≡ with_tracker (with_used session used) tracker cycles }
 {
-    let scan = session.scan;
     Session {
-        scan,
         tracker,
-        frames: session.frames,
         cycles,
         used,
+        ..session
     }
 }
 
@@ -76,10 +58,7 @@ pub struct Passed {
 pub fn later(index: u64, n: usize) -> u64
     ensures { result ≡ min (index + n) (2 ^ 64 - 1) }
 {
-    if index < 0xffff_ffff_ffff_ffff - n as u64 {
-        return index + n as u64;
-    }
-    0xffff_ffff_ffff_ffff
+    index.saturating_add(n as u64)
 }
 
 pub fn pass(session: Session, levels: &mut [f32], samples: &[f32], first: u64) -> Passed
