@@ -6,8 +6,9 @@ use mathlib.Core.Bool.{true}
 use native.Mathlib.Nat.{zero-add, add-zero, add-suc, mul-one, mul-le-mul_left}
 use native.Mathlib.Numerals.{add-one}
 use native.Mathlib.Omega.{arith}
-use lib.ListN.{length, take, drop, set, take-append-drop, drop_of_length-le, length-append, length-drop, length-set}
-use lib.Seq.{drop-cons, drop-drop, length-take-le}
+use lib.ListN.{length, take, drop, set, drop_of_length-le, length-append, length-drop, length-set}
+use Rattle.std.proofs.lemmas.List.{get_or-take, get_or-drop}
+use lib.Seq.{drop-cons, length-take-le}
 use lib.Ieee.{Float, nan}
 use lib.Ieee.Scale.{finite}
 use Rattle.answers.specs.Pick.{pick}
@@ -38,6 +39,17 @@ unfolding all_finite
 finite_at [] i h l = absurd (omega arith)
 finite_at (x ∷ xs) zero h l = first _ _ h
 finite_at (x ∷ xs) (suc i) h l = finite_at xs i (second (finite x) _ h) (omega arith)
+
+-- ---- n values of a list from one place on
+
+pub part_length : (xs : List Float) (from n : ℕ) → from + n ≤ length xs → length (take (from + n - from) (drop from xs)) ≡ n
+part_length xs from n h =
+    let e : from + n - from ≡ n = omega arith in
+    rw e (length-take-le n (drop from xs) (omega (arith, length-drop from xs)))
+
+pub at_part : (xs : List Float) (from n i : ℕ) → i < n → at (take (from + n - from) (drop from xs)) i ≡ at xs (from + i)
+at_part xs from n i h =
+    get_or-take (from + n - from) (drop from xs) i nan (omega arith) ∙ get_or-drop from xs i nan
 
 -- ---- one more term of a sum that goes on
 
@@ -205,27 +217,18 @@ unfolding hear_all
 ready_rest slack g h [] ys r = r
 ready_rest slack g h (x ∷ xs) ys r = ready_rest slack g (hear slack g h x) xs ys (hear_ready slack g h x (xs ++ ys) r)
 
-cut : (xs : List Float) (i end : ℕ) → i ≤ end → drop i xs ≡ take (end - i) (drop i xs) ++ drop end xs
-cut xs i end l =
-    let n : i + (end - i) ≡ end = omega arith in
-    sym (take-append-drop (end - i) (drop i xs)) ∙ ap (λ (t : List Float). take (end - i) (drop i xs) ++ t) (drop-drop (end - i) i xs ∙ ap (λ (t : ℕ). drop t xs) n)
+-- the samples that are left are a run and later ones
+module _ (slack : ℕ) (g : Geometry) (h₀ : Heard) (xs : List Float) (h : Heard) (rest run later : List Float) (k : Going slack g h₀ xs h rest) (parted : rest ≡ run ++ later) where
+  all : Ready slack g h (run ++ later)
+  all = subst (λ (t : List Float). Ready slack g h t) parted k.left
 
-pub cut_length : (xs : List Float) (i end : ℕ) → i ≤ end → end ≤ length xs → length (take (end - i) (drop i xs)) ≡ end - i
-cut_length xs i end l within = length-take-le (end - i) (drop i xs) (omega (arith, length-drop i xs))
+  pub run_ready : Ready slack g h run
+  run_ready = ready_front slack g h run later all
 
-module _ (slack : ℕ) (g : Geometry) (h₀ : Heard) (xs : List Float) (h : Heard) (i end : ℕ) (k : Going slack g h₀ xs h i) (after : i ≤ end) (within : end ≤ length xs) where
-  all : Ready slack g h (take (end - i) (drop i xs) ++ drop end xs)
-  all = subst (λ (t : List Float). Ready slack g h t) (cut xs i end after) k.left
-
-  pub run_ready : Ready slack g h (take (end - i) (drop i xs))
-  run_ready = ready_front slack g h _ _ all
-
-  pub run_heard : (f : Far) (e : List Float) → f ≡ (hear_all slack g h (take (end - i) (drop i xs))).far → e ≡ (hear_all slack g h (take (end - i) (drop i xs))).envelope
-      → Going slack g h₀ xs (record { far = f; envelope = e }) end
+  pub run_heard : (f : Far) (e : List Float) → f ≡ (hear_all slack g h run).far → e ≡ (hear_all slack g h run).envelope → Going slack g h₀ xs (record { far = f; envelope = e }) later
   run_heard f e p q =
-      let same : ◌≡◌ {A = Heard} (record { far = f; envelope = e }) (hear_all slack g h (take (end - i) (drop i xs))) = rw (p, q) in
+      let same : ◌≡◌ {A = Heard} (record { far = f; envelope = e }) (hear_all slack g h run) = rw (p, q) in
       record {
-        within = within;
-        left = subst (λ (t : Heard). Ready slack g t (drop end xs)) (sym same) (ready_rest slack g h _ _ all);
-        whole = ap (λ (t : Heard). hear_all slack g t (drop end xs)) same ∙ sym (pushes_join slack g h (take (end - i) (drop i xs)) (drop end xs)) ∙ ap (hear_all slack g h) (sym (cut xs i end after)) ∙ k.whole;
+        left = subst (λ (t : Heard). Ready slack g t later) (sym same) (ready_rest slack g h run later all);
+        whole = ap (λ (t : Heard). hear_all slack g t later) same ∙ sym (pushes_join slack g h run later) ∙ ap (hear_all slack g h) (sym parted) ∙ k.whole;
       }

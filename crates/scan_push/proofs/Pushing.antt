@@ -1,12 +1,12 @@
 -- What a push that is not refused may count on, and its loop.
 use Prim.Native.Nat.{ℕ, ◌+◌, ◌-◌, ◌*◌, ◌/◌, ◌%◌, ◌≤◌, ◌<◌}
 use mathlib.Core.Path.{◌≡◌, refl, sym, ap, ◌∙◌}
-use mathlib.Core.List.{List, ◌∷◌}
+use mathlib.Core.List.{[], List, ◌∷◌}
 use mathlib.Core.Bool.{Bool, true, false, not}
 use native.Mathlib.Nat.{div-add-mod', mod-lt, add-mul, one-mul}
 use native.Mathlib.Omega.{arith}
 use lib.Dec.{leb, ltb, eqb}
-use lib.ListN.{length, drop, set, length-set, drop_of_length-le}
+use lib.ListN.{length, set, length-set}
 use lib.Ieee.{Float}
 use lib.Ieee.Scale.{finite}
 use borrow.Author.Tests.{leb-true, ltb-true, eqb-true, eqb-false, eq-eqb, ne_eqb, not-true}
@@ -194,16 +194,16 @@ hear_ready slack g h x xs r =
       finite = second (finite x) _ r.finite;
     })
 
--- after i samples of a push on h₀ the far side is h
-pub record Going (slack : ℕ) (g : Geometry) (h₀ : Heard) (xs : List Float) (h : Heard) (i : ℕ) : Type 0 where
-  pub within : i ≤ length xs
-  pub left : Ready slack g h (drop i xs)
-  pub whole : hear_all slack g h (drop i xs) ≡ hear_all slack g h₀ xs
+-- the far side is h, and what is left of a push on h₀ leaves from here on what the whole push leaves
+pub record Going (slack : ℕ) (g : Geometry) (h₀ : Heard) (xs : List Float) (h : Heard) (rest : List Float) : Type 0 where
+  pub left : Ready slack g h rest
+  pub whole : hear_all slack g h rest ≡ hear_all slack g h₀ xs
 
 module _ (slack : ℕ) (g : Geometry) (h₀ : Heard) (xs : List Float) where
-  pub starts : Ready slack g h₀ xs → Going slack g h₀ xs h₀ 0
-  starts r = record { within = omega arith; left = r; whole = refl }
+  pub starts : Ready slack g h₀ xs → Going slack g h₀ xs h₀ xs
+  starts r = record { left = r; whole = refl }
 
-  pub ends : (h : Heard) (i : ℕ) → length xs ≤ i → Going slack g h₀ xs h i → h ≡ hear_all slack g h₀ xs
+  pub ends : (h : Heard) (rest : List Float) → length rest ≡ 0 → Going slack g h₀ xs h rest → h ≡ hear_all slack g h₀ xs
   unfolding hear_all
-  ends h i l k = rw (drop_of_length-le xs l) at k.whole
+  ends h [] l k = k.whole
+  ends h (x ∷ rest) l k = absurd (omega arith)

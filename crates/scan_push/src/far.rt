@@ -49,10 +49,10 @@ fn hear_part(slack: u32, g: Geometry, f: Far, envelope: &mut [f32], samples: &[f
     let accepted = f.accepted + samples.len() as u64;
     if count != g.decimation {
         return Far {
-            next: f.next,
             sum,
             count,
             accepted,
+            ..f
         };
     }
     let block = f.next;
@@ -136,16 +136,11 @@ fn run_length(g: Geometry, f: Far, left: usize) -> usize
     requires { (f.count < g.decimation) × (g.decimation ≤ 192) × (0 < left) }
     ensures { RunLength g f left result }
 {
-    if f.count == 0 {
-        if 4 * g.decimation <= left as u64 {
-            return 4 * g.decimation as usize;
-        }
+    if f.count == 0 && 4 * g.decimation <= left as u64 {
+        return 4 * g.decimation as usize;
     }
     let rest = (2 * g.decimation - f.count) as usize;
-    if rest < left {
-        return rest;
-    }
-    left
+    rest.min(left)
 }
 
 // A push goes run by run, in a state that was judged.
@@ -155,11 +150,11 @@ pub fn hear_all(slack: u32, g: Geometry, far: Far, envelope: &mut [f32], samples
     ensures envelope { envelope.new ≡ (hear_all slack g (record { far = far; envelope = envelope.old }) samples.now).envelope }
 {
     let mut f = far;
-    let mut i = 0;
-    while i < samples.len() {
-        let end = i + run_length(g, f, samples.len() - i);
-        f = hear_run(slack, g, f, envelope, &samples[i..end]);
-        i = end;
+    let mut rest = samples;
+    while !rest.is_empty() {
+        let (run, later) = rest.split_at(run_length(g, f, rest.len()));
+        f = hear_run(slack, g, f, envelope, run);
+        rest = later;
     }
     f
 }
@@ -172,8 +167,6 @@ pub fn push(slack: u32, scan: Scan, envelope: &mut [f32], samples: &[f32]) -> Ch
     if number != 0 {
         return parts::refused(scan, number);
     }
-    let geometry = scan.geometry;
-    let far = scan.far;
-    let heard = hear_all(slack, geometry, far, envelope, samples);
+    let heard = hear_all(slack, scan.geometry, scan.far, envelope, samples);
     parts::done(parts::with_far(scan, heard))
 }

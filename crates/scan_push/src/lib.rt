@@ -33,22 +33,19 @@ pub fn push_near(scan: Scan, levels: &mut [f32], sample: f32, index: u64) -> Too
             answer: Taking::Refused(n),
         };
     }
-    let g = scan.geometry;
-    let near = scan.near;
-    let verdict = scan.verdict;
-    if scan_calls::rules::finished(verdict) {
+    if scan_calls::rules::finished(scan.verdict) {
         return Took {
             scan,
             answer: Taking::Ignored,
         };
     }
-    let held = near::held_at(near, index);
-    if near::dropped(g, held, index) {
+    let held = near::held_at(scan.near, index);
+    if near::dropped(scan.geometry, held, index) {
         return Took {
             scan: scan_calls::parts::with_near(scan, held),
             answer: Taking::Dropped,
         };
     }
-    let gathered = near::gather(g, held, levels, sample, index);
+    let gathered = near::gather(scan.geometry, held, levels, sample, index);
     near::taken(scan, gathered)
 }

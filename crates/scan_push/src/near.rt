@@ -18,30 +18,21 @@ pub fn dropped(g: Geometry, n: Near, index: u64) -> bool
     requires { 0 < g.decimation }
     ensures { result ≡ Blocks.dropped g n index }
 {
-    if !rules::idle(n) {
-        return false;
-    }
-    index % g.decimation != 0
+    rules::idle(n) && index % g.decimation != 0
 }
 
 // The index is the last one plus one, which may not fit.
 pub fn follows(last: u64, index: u64) -> bool
     ensures { result ≡ eqb index (last + 1) }
 {
-    if index == 0 {
-        return false;
-    }
-    index - 1 == last
+    index != 0 && index - 1 == last
 }
 
 // The near side as a sample with this index finds it: a hole drops the frame under way.
 pub fn held_at(n: Near, index: u64) -> Near
     ensures { result ≡ held_at n index }
 {
-    if rules::idle(n) {
-        return n;
-    }
-    if follows(n.last, index) {
+    if rules::idle(n) || follows(n.last, index) {
         return n;
     }
     parts::empty(n)
@@ -52,10 +43,7 @@ fn readable(g: Geometry, n: Near, sample: f32, index: u64) -> bool
     requires { 0 < g.decimation }
     ensures { result ≡ either (Blocks.dropped g n index) (finite sample) }
 {
-    if dropped(g, n, index) {
-        return true;
-    }
-    floats::is_finite32(sample)
+    dropped(g, n, index) || floats::is_finite32(sample)
 }
 
 pub fn refusal(scan: Scan, levels: &[f32], sample: f32, index: u64) -> u8
@@ -106,11 +94,11 @@ pub fn gather(g: Geometry, n: Near, levels: &mut [f32], sample: f32, index: u64)
     let count = n.count + 1;
     if count != g.decimation {
         return Near {
-            len: n.len,
             sum,
             count,
             first,
             last: index,
+            ..n
         };
     }
     let bin = n.len as usize;

@@ -13,10 +13,8 @@ pub fn run(start: f64, samples: &[f32], from: usize, n: usize) -> f64
     ensures { result ≡ onward start samples.now from n }
 {
     let mut sum = start;
-    let mut i = 0;
-    while i < n {
-        sum = level::summed(sum, samples[from + i]);
-        i += 1;
+    for &sample in &samples[from..from + n] {
+        sum = level::summed(sum, sample);
     }
     sum
 }
@@ -34,11 +32,9 @@ fn abreast(start: f64, samples: &[f32], m: usize, n: usize) -> TwoSums
 {
     let mut first = start;
     let mut next = 0.0;
-    let mut i = 0;
-    while i < n {
+    for i in 0..n {
         first = level::summed(first, samples[i]);
         next = level::summed(next, samples[m + i]);
-        i += 1;
     }
     TwoSums {
         first,
@@ -52,7 +48,7 @@ pub fn two(start: f64, samples: &[f32], m: usize) -> TwoSums
     ensures { result ≡ record { first = onward start samples.now 0 m; second = onward zero64 samples.now m (length samples.now - m) } }
 {
     let others = samples.len() - m;
-    let n = answers::smaller(m as u64, others as u64) as usize;
+    let n = m.min(others);
     let begun = abreast(start, samples, m, n);
     TwoSums {
         first: run(begun.first, samples, n, m - n),
@@ -78,13 +74,11 @@ pub fn four(start: f64, samples: &[f32], d: usize) -> FourSums
     let mut second = 0.0;
     let mut third = 0.0;
     let mut fourth = 0.0;
-    let mut i = 0;
-    while i < d {
+    for i in 0..d {
         first = level::summed(first, samples[i]);
         second = level::summed(second, samples[d + i]);
         third = level::summed(third, samples[d + d + i]);
         fourth = level::summed(fourth, samples[d + d + d + i]);
-        i += 1;
     }
     FourSums {
         first,

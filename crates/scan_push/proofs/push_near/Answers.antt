@@ -40,7 +40,7 @@ dropped-requires c =
 pub returns-then-dropped : goal.returns-then-dropped
 returns-then-dropped c =
     let a = c.args in
-    let e = is_dropped a.scan a.levels.now a.sample a.index c.refusal-n.ensures c.if-n-ne0.false c.finished.ensures c.if-finished.false (drops c.before.before) c.if-dropped.true in
+    let e = is_dropped a.scan a.levels.now a.sample a.index c.refusal-n.ensures c.if-n-ne0.false c.finished.ensures c.if-finished.false (drops (goal.at.returns-then-dropped c).After-dropped) c.if-dropped.true in
     record {
       took = rw (← e, c.with_near.ensures, c.held_at-held.ensures);
       levels = rw (← e);
@@ -50,13 +50,13 @@ pub gather-gathered-requires : goal.gather-gathered-requires
 gather-gathered-requires c =
     let a = c.args in
     rw c.held_at-held.ensures
-    (gathers a.scan a.levels.now a.sample a.index (sym c.refusal-n.ensures ∙ c.if-n-ne0.false) (sym c.finished.ensures ∙ c.if-finished.false) (sym (drops c.before.before) ∙ c.if-dropped.false))
+    (gathers a.scan a.levels.now a.sample a.index (sym c.refusal-n.ensures ∙ c.if-n-ne0.false) (sym c.finished.ensures ∙ c.if-finished.false) (sym (drops (goal.at.gather-gathered-requires c).After-dropped) ∙ c.if-dropped.false))
 
 pub returns : goal.returns
 returns c =
     let a = c.args in
     let held = c.held_at-held.ensures in
-    let e = is_taken a.scan a.levels.now a.sample a.index c.refusal-n.ensures c.if-n-ne0.false c.finished.ensures c.if-finished.false (drops c.before.before.before.before.before.before.before) c.if-dropped.false in
+    let e = is_taken a.scan a.levels.now a.sample a.index c.refusal-n.ensures c.if-n-ne0.false c.finished.ensures c.if-finished.false (drops (goal.at.returns c).After-dropped) c.if-dropped.false in
     record {
       took = rw (← e, c.taken.ensures, c.gather-gathered.ensures.near, held);
       levels = rw (← e, c.gather-gathered.ensures.levels, held);

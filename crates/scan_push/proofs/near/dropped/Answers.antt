@@ -2,8 +2,8 @@
 use Rattle.answers.proofs.Cases.{cases}
 use Rattle.scan_push.proofs.near.dropped.Goals as goal
 
-pub returns-then-not-idle : goal.returns-then-not-idle
-returns-then-not-idle c = search (cases, ← c.idle.ensures)
+pub returns-then-idle : goal.returns-then-idle
+returns-then-idle c = search (cases, ← c.idle.ensures)
 
-pub returns : goal.returns
-returns c = search (cases, ← c.idle.ensures)
+pub returns-else-idle : goal.returns-else-idle
+returns-else-idle c = search (cases, ← c.idle.ensures)

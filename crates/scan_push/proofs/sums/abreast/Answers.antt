@@ -9,7 +9,7 @@ use Rattle.scan_push.proofs.sums.abreast.Goals as goal
 
 pub loop-i-init : goal.loop-i-init
 unfolding onward of_bits
-loop-i-init c = (omega arith, refl, refl)
+loop-i-init c = (refl, refl)
 
 pub summed-first-requires : goal.summed-first-requires
 summed-first-requires c = finite_at _ _ c.requires.1 (omega arith)
@@ -22,13 +22,12 @@ loop-i-preserved c =
     let l = c.loop-i in
     let a = c.args in
     let xs = a.samples.now in (
-      omega arith,
-      c.summed-first.ensures ∙ onward_first a.start xs l.i l.first l.invariant.1,
-      c.summed-next.ensures ∙ onward_more zero64 xs a.m l.i l.next l.invariant.2,
+      c.summed-first.ensures ∙ onward_first a.start xs l.i l.first l.invariant.0,
+      c.summed-next.ensures ∙ onward_more zero64 xs a.m l.i l.next l.invariant.1,
     )
 
 pub returns : goal.returns
 returns c =
     let l = c.loop-i in
     let e : l.i ≡ c.args.n = omega arith in
-    rw (l.invariant.1, l.invariant.2, e)
+    rw (l.invariant.0, l.invariant.1, e)

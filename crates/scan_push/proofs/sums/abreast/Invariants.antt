@@ -1,11 +1,7 @@
-use Prim.Native.Nat.{◌-◌, ◌≤◌}
 use mathlib.Core.Path.{◌≡◌}
 use Rattle.floats.specs.Functions.{zero64}
 use Rattle.scan_push.specs.Onward.{onward}
 use Rattle.scan_push.proofs.sums.abreast.Given as goal
 
 abbrev pub invariant-loop-i : goal.invariant-loop-i
-invariant-loop-i l = (l.i ≤ l.n) × (l.first ≡ onward l.start l.samples 0 l.i) × (l.next ≡ onward zero64 l.samples l.m l.i)
-
-abbrev pub decreases-loop-i : goal.decreases-loop-i
-decreases-loop-i l = l.n - l.i
+invariant-loop-i l = (l.first ≡ onward l.start l.samples 0 l.i) × (l.next ≡ onward zero64 l.samples l.m l.i)

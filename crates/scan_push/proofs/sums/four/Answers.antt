@@ -10,7 +10,7 @@ use Rattle.scan_push.proofs.sums.four.Goals as goal
 
 pub loop-i-init : goal.loop-i-init
 unfolding onward of_bits
-loop-i-init c = (omega arith, refl, refl, refl, refl)
+loop-i-init c = (refl, refl, refl, refl)
 
 pub summed-first-requires : goal.summed-first-requires
 summed-first-requires c = finite_at _ _ c.requires.finite (omega arith)
@@ -30,15 +30,14 @@ loop-i-preserved c =
     let a = c.args in
     let xs = a.samples.now in
     let d = a.d in (
-      omega arith,
-      c.summed-first.ensures ∙ onward_first a.start xs l.i l.first l.invariant.1,
-      c.summed-second.ensures ∙ onward_more zero64 xs d l.i l.second l.invariant.2,
-      c.summed-third.ensures ∙ onward_more zero64 xs (d + d) l.i l.third l.invariant.3,
-      c.summed-fourth.ensures ∙ onward_more zero64 xs (d + d + d) l.i l.fourth l.invariant.4,
+      c.summed-first.ensures ∙ onward_first a.start xs l.i l.first l.invariant.0,
+      c.summed-second.ensures ∙ onward_more zero64 xs d l.i l.second l.invariant.1,
+      c.summed-third.ensures ∙ onward_more zero64 xs (d + d) l.i l.third l.invariant.2,
+      c.summed-fourth.ensures ∙ onward_more zero64 xs (d + d + d) l.i l.fourth l.invariant.3,
     )
 
 pub returns : goal.returns
 returns c =
     let l = c.loop-i in
     let e : l.i ≡ c.args.d = omega arith in
-    rw (l.invariant.1, l.invariant.2, l.invariant.3, l.invariant.4, e)
+    rw (l.invariant.0, l.invariant.1, l.invariant.2, l.invariant.3, e)

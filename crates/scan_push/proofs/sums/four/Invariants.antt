@@ -1,4 +1,4 @@
-use Prim.Native.Nat.{◌+◌, ◌-◌, ◌≤◌}
+use Prim.Native.Nat.{◌+◌}
 use mathlib.Core.Path.{◌≡◌}
 use Rattle.floats.specs.Functions.{zero64}
 use Rattle.scan_push.specs.Onward.{onward}
@@ -6,7 +6,4 @@ use Rattle.scan_push.proofs.sums.four.Given as goal
 
 abbrev pub invariant-loop-i : goal.invariant-loop-i
 invariant-loop-i l =
-    (l.i ≤ l.d) × (l.first ≡ onward l.start l.samples 0 l.i) × (l.second ≡ onward zero64 l.samples l.d l.i) × (l.third ≡ onward zero64 l.samples (l.d + l.d) l.i) × (l.fourth ≡ onward zero64 l.samples (l.d + l.d + l.d) l.i)
-
-abbrev pub decreases-loop-i : goal.decreases-loop-i
-decreases-loop-i l = l.d - l.i
+    (l.first ≡ onward l.start l.samples 0 l.i) × (l.second ≡ onward zero64 l.samples l.d l.i) × (l.third ≡ onward zero64 l.samples (l.d + l.d) l.i) × (l.fourth ≡ onward zero64 l.samples (l.d + l.d + l.d) l.i)
