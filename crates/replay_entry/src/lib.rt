@@ -42,17 +42,17 @@ pub enum Supply {
 
 // ---- what a turn comes to
 
-// More of an input is wanted, and nothing was done.
-fn waits(number: u32, session: Session, input: Input) -> Turned
-    ensures { result ≡ turned number Events session (Wants input) (bytes_used 0 0 0) }
+// No byte is used.
+pub fn stands(number: u32, stage: Stage, session: Session, answer: Answer) -> Turned
+    ensures { result ≡ turned number stage session answer (bytes_used 0 0 0) }
 {
     Turned {
         place: Place {
             number,
-            stage: Stage::Events,
+            stage,
             session,
         },
-        answer: Answer::Wants(input),
+        answer,
         used: Bytes {
             events: 0,
             far: 0,
@@ -61,24 +61,19 @@ fn waits(number: u32, session: Session, input: Input) -> Turned
     }
 }
 
+// More of an input is wanted, and nothing was done.
+fn waits(number: u32, session: Session, input: Input) -> Turned
+    ensures { result ≡ turned number Events session (Wants input) (bytes_used 0 0 0) }
+{
+    stands(number, Stage::Events, session, Answer::Wants(input))
+}
+
 // A bad event ends the log.
 fn bad(number: u32, session: Session) -> Turned
     ensures { result ≡ turned number Closed session (Says (line.BadEvent number)) (bytes_used 0 0 0) }
 {
-    let line = Line::BadEvent(number);
-    Turned {
-        place: Place {
-            number,
-            stage: Stage::Closed,
-            session,
-        },
-        answer: Answer::Says(line),
-        used: Bytes {
-            events: 0,
-            far: 0,
-            near: 0,
-        },
-    }
+    let answer = Answer::Says(Line::BadEvent(number));
+    stands(number, Stage::Closed, session, answer)
 }
 
 // The log goes on behind the event.
@@ -107,10 +102,7 @@ fn change_answer(number: u32, answer: Change) -> Answer
     ensures { result ≡ told (change_lines number answer) }
 {
     match answer {
-        Change::Refused(refusal) => {
-            let line = Line::Refused(number, refusal);
-            Answer::Says(line)
-        }
+        Change::Refused(refusal) => Answer::Says(Line::Refused(number, refusal)),
         Change::Done => Answer::Silent,
     }
 }
@@ -120,10 +112,8 @@ fn changed(number: u32, session: Session, used: Used, change: Changed, far: usiz
     requires { number < 2 ^ 32 - 1 }
     ensures { result ≡ turned (number + 1) Events (with_scan (with_used session used) change.scan) (told (change_lines number change.answer)) (bytes_used 16 far 0) }
 {
-    let scan = change.scan;
-    let told = change.answer;
-    let answer = change_answer(number, told);
-    let next = events::next_with_scan(session, used, scan);
+    let answer = change_answer(number, change.answer);
+    let next = events::next_with_scan(session, used, change.scan);
     goes_on(number, Stage::Events, next, answer, far)
 }
 
@@ -131,14 +121,10 @@ fn cycle(number: u32, session: Session, alignment: Samples, outcome: Outcome) ->
     requires { number < 2 ^ 32 - 1 }
     ensures { result ≡ turned (number + 1) Events (with_tracker (with_used session session.used) (cycled session.tracker alignment outcome).tracker (cycles_after session.cycles (cycled session.tracker alignment outcome).verdict)) (Says (cycle_line number session.cycles (cycled session.tracker alignment outcome).verdict)) (bytes_used 16 0 0) }
 {
-    let before = session.tracker;
-    let used = session.used;
-    let c = before.on_cycle(alignment, outcome);
-    let tracker = c.tracker;
-    let verdict = c.verdict;
-    let line = words::cycle_line(number, session.cycles, verdict);
-    let cycles = words::cycles_after(session.cycles, verdict);
-    let next = events::next_with_tracker(session, used, tracker, cycles);
+    let c = session.tracker.on_cycle(alignment, outcome);
+    let line = words::cycle_line(number, session.cycles, c.verdict);
+    let cycles = words::cycles_after(session.cycles, c.verdict);
+    let next = events::next_with_tracker(session, session.used, c.tracker, cycles);
     goes_on(number, Stage::Events, next, Answer::Says(line), 0)
 }
 
@@ -146,13 +132,9 @@ fn discontinuity(number: u32, session: Session) -> Turned
     requires { number < 2 ^ 32 - 1 }
     ensures { result ≡ turned (number + 1) Events (with_tracker (with_used session session.used) (seamed session.tracker).tracker session.cycles) (told (change_lines number (seamed session.tracker).answer)) (bytes_used 16 0 0) }
 {
-    let before = session.tracker;
-    let used = session.used;
-    let c = before.on_discontinuity();
-    let tracker = c.tracker;
-    let told = c.answer;
-    let answer = change_answer(number, told);
-    let next = events::next_with_tracker(session, used, tracker, session.cycles);
+    let c = session.tracker.on_discontinuity();
+    let answer = change_answer(number, c.answer);
+    let next = events::next_with_tracker(session, session.used, c.tracker, session.cycles);
     goes_on(number, Stage::Events, next, answer, 0)
 }
 
@@ -237,8 +219,7 @@ fn enter_near(number: u32, session: Session, count: u32, first: u64) -> Turned
         far: session.used.far,
         near: session.used.near + count as u64,
     };
-    let scan = session.scan;
-    let next = events::next_with_scan(session, used, scan);
+    let next = events::next_with_scan(session, used, session.scan);
     let stage = stage_at(number, first, count as usize);
     goes_on(number, stage, next, Answer::Silent, 0)
 }
@@ -321,10 +302,7 @@ fn play(
 fn short_of_an_entry(events: &[u8], ended: bool) -> bool
     ensures { result ≡ short 16 (piece events.now ended) }
 {
-    if ended {
-        return false;
-    }
-    events.len() < 16
+    !ended && events.len() < 16
 }
 
 // The next entry of the event input.

@@ -37,24 +37,17 @@ pub struct NearCut {
 fn scored(event: u32, session: Session, score: Scored) -> Played
     ensures { (b : Buffers) → tells result b ≡ tells_of (after_score event session score.scan b score.answer) }
 {
-    let scan = score.scan;
-    let answer = score.answer;
-    match answer {
-        Scoring::Refused(number) => {
-            let next = events::with_scan(session, scan);
-            let line = Line::Refused(event, number);
-            Played {
-                session: next,
-                answer: Answer::Says(line),
-                ends: true,
-            }
-        }
+    match score.answer {
+        Scoring::Refused(number) => Played {
+            session: events::with_scan(session, score.scan),
+            answer: Answer::Says(Line::Refused(event, number)),
+            ends: true,
+        },
         Scoring::Frame(frame, _) => {
-            let next = events::with_frame(session, scan);
-            let line = Line::Frame(session.frames, words::word_of(frame));
+            let next = events::with_frame(session, score.scan);
             Played {
                 session: next,
-                answer: Answer::Says(line),
+                answer: Answer::Says(Line::Frame(session.frames, words::word_of(frame))),
                 ends: false,
             }
         }
@@ -74,9 +67,15 @@ fn score(
 ) -> Played
     ensures { tells result (lent envelope.now levels.now window.new prefix.new squares.new scores.new lag_sums.new) ≡ tells_of (score_played event session (lent envelope.now levels.now window.old prefix.old squares.old scores.old lag_sums.old)) }
 {
-    let before = session.scan;
     let seen = scan_score::observe(
-        before, envelope, levels, window, prefix, squares, scores, lag_sums,
+        session.scan,
+        envelope,
+        levels,
+        window,
+        prefix,
+        squares,
+        scores,
+        lag_sums,
     );
     scored(event, session, seen)
 }
@@ -97,31 +96,15 @@ fn sample(
 ) -> Played
     ensures { tells result (lent envelope.now levels.new window.new prefix.new squares.new scores.new lag_sums.new) ≡ tells_of (sample_played event session (lent envelope.now levels.old window.old prefix.old squares.old scores.old lag_sums.old) x index) }
 {
-    let before = session.scan;
-    let took = scan_push::push_near(before, levels, x, index);
-    let after = took.scan;
-    let next = events::with_scan(session, after);
-    let answer = took.answer;
-    match answer {
-        Taking::Refused(number) => {
-            let line = Line::Refused(event, number);
-            Played {
-                session: next,
-                answer: Answer::Says(line),
-                ends: true,
-            }
-        }
-        Taking::Ignored => Played {
+    let took = scan_push::push_near(session.scan, levels, x, index);
+    let next = events::with_scan(session, took.scan);
+    match took.answer {
+        Taking::Refused(number) => Played {
             session: next,
-            answer: Answer::Silent,
-            ends: false,
+            answer: Answer::Says(Line::Refused(event, number)),
+            ends: true,
         },
-        Taking::Dropped => Played {
-            session: next,
-            answer: Answer::Silent,
-            ends: false,
-        },
-        Taking::Taken => Played {
+        Taking::Ignored | Taking::Dropped | Taking::Taken => Played {
             session: next,
             answer: Answer::Silent,
             ends: false,
@@ -136,21 +119,11 @@ fn sample(
 fn cut_behind(one: Played, index: u64, left: usize) -> NearCut
     ensures { result ≡ record { session = one.session; answer = one.answer; index = index; left = pick one.ends 0 left } }
 {
-    let session = one.session;
-    let answer = one.answer;
-    if one.ends {
-        return NearCut {
-            session,
-            answer,
-            index,
-            left: 0,
-        };
-    }
     NearCut {
-        session,
-        answer,
+        session: one.session,
+        answer: one.answer,
         index,
-        left,
+        left: if one.ends { 0 } else { left },
     }
 }
 

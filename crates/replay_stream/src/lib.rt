@@ -2,6 +2,9 @@
 // what a host does with it, and the theorem `streamed_log` (proofs/Whole.antt) that the host then gets the log.
 #![tactic(auto)]
 
+ghost use Rattle.std.specs.Prelude.{◌≡◌, ◌+◌, ◌^◌, ◌<◌};
+ghost use Rattle.replay_stream.specs.Stream.{bytes_used};
+
 use log_lines::Line;
 use replay::Session;
 
@@ -28,6 +31,20 @@ pub struct Bytes {
     pub events: usize,
     pub far: usize,
     pub near: usize,
+}
+
+impl Bytes {
+    // Those of two turns, one behind the other.
+    pub fn plus(self, more: Bytes) -> Bytes
+        requires { (self.events + more.events < 2 ^ 64) × (self.far + more.far < 2 ^ 64) × (self.near + more.near < 2 ^ 64) }
+        ensures { result ≡ bytes_used (self.events + more.events) (self.far + more.far) (self.near + more.near) }
+    {
+        Bytes {
+            events: self.events + more.events,
+            far: self.far + more.far,
+            near: self.near + more.near,
+        }
+    }
 }
 
 #[derive(Clone, Copy)]

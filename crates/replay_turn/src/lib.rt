@@ -14,35 +14,14 @@ ghost use Rattle.replay_stream.specs.Giving.{hand_of, turned, gives};
 use log_lines::Line;
 use recording::{Form, Header};
 use replay::Session;
-use replay_stream::{Answer, Bytes, Ended, Input, Place, Stage, Turned};
-
-// No byte is used.
-fn stands(number: u32, stage: Stage, session: Session, answer: Answer) -> Turned
-    ensures { result ≡ turned number stage session answer (bytes_used 0 0 0) }
-{
-    Turned {
-        place: Place {
-            number,
-            stage,
-            session,
-        },
-        answer,
-        used: Bytes {
-            events: 0,
-            far: 0,
-            near: 0,
-        },
-    }
-}
+use replay_entry::stands;
+use replay_stream::{Answer, Ended, Input, Place, Stage, Turned};
 
 // Whether the samples that a near event has left are not all at hand.
 fn lacks(form: Form, near: &[u8], left: u32) -> bool
     ensures { result ≡ ltb (min (length near.now) (bytes_of form 4096)) (bytes_of form left) }
 {
-    if left > 4096 {
-        return true;
-    }
-    near.len() < recording::bytes_of(form, left) as usize
+    left > 4096 || near.len() < recording::bytes_of(form, left) as usize
 }
 
 pub fn turn(

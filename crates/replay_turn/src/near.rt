@@ -16,17 +16,14 @@ fn after_near(form: Form, number: u32, event: u32, left: u32, cut: NearCut) -> T
     requires { (cut.left ≤ left) × (left ≤ 4096) }
     ensures { result ≡ turned number (midway event cut.index cut.left) cut.session cut.answer (bytes_used 0 0 (bytes_of form (left - cut.left))) }
 {
-    let session = cut.session;
-    let answer = cut.answer;
     let rest = cut.left;
-    let stage = replay_entry::stage_at(event, cut.index, rest);
     Turned {
         place: Place {
             number,
-            stage,
-            session,
+            stage: replay_entry::stage_at(event, cut.index, rest),
+            session: cut.session,
         },
-        answer,
+        answer: cut.answer,
         used: Bytes {
             events: 0,
             far: 0,

@@ -1,11 +1,13 @@
 -- `short_of_an_entry` meets its contract: by the end of the input.
+use Rattle.std.proofs.Common.{arith}
 use Rattle.answers.specs.Pick.{pick}
+use Rattle.answers.proofs.Cases.{cases}
 use Rattle.replay_entry.proofs.short_of_an_entry.Goals as goal
 
-pub returns-then-ended : goal.returns-then-ended
+pub returns-then-not-ended : goal.returns-then-not-ended
 unfolding pick
-returns-then-ended c = rw c.if-ended.true
+returns-then-not-ended c = grind (arith, cases)
 
-pub returns : goal.returns
+pub returns-else-not-ended : goal.returns-else-not-ended
 unfolding pick
-returns c = rw c.if-ended.false
+returns-else-not-ended c = grind (arith, cases)

@@ -5,5 +5,5 @@ use Rattle.replay_near.proofs.cut_behind.Goals as goal
 pub returns-then-one : goal.returns-then-one
 returns-then-one c = search cases
 
-pub returns : goal.returns
-returns c = search cases
+pub returns-else-one : goal.returns-else-one
+returns-else-one c = search cases

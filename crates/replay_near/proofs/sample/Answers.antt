@@ -1,4 +1,5 @@
 -- `sample` meets its contract: by the answer of `push_near`; a full frame is scored.
+use Rattle.std.proofs.Common.{inl, inr}
 use Rattle.replay.specs.Events.{sample_played}
 use Rattle.replay_near.proofs.sample.Goals as goal
 
@@ -10,17 +11,13 @@ returns-in-Refused c =
 pub returns-in-Ignored : goal.returns-in-Ignored
 unfolding sample_played
 returns-in-Ignored c =
-    rw (c.with_scan-next.ensures, ← c.push_near-took.ensures.took, ← c.push_near-took.ensures.levels, c.in-Ignored.is)
-
-pub returns-in-Dropped : goal.returns-in-Dropped
-unfolding sample_played
-returns-in-Dropped c =
-    rw (c.with_scan-next.ensures, ← c.push_near-took.ensures.took, ← c.push_near-took.ensures.levels, c.in-Dropped.is)
-
-pub returns-in-Taken : goal.returns-in-Taken
-unfolding sample_played
-returns-in-Taken c =
-    rw (c.with_scan-next.ensures, ← c.push_near-took.ensures.took, ← c.push_near-took.ensures.levels, c.in-Taken.is)
+    elim c.in-Ignored.is [
+      | inl is ↦ rw (c.with_scan-next.ensures, ← c.push_near-took.ensures.took, ← c.push_near-took.ensures.levels, is)
+      | inr rest ↦ elim rest [
+        | inl is ↦ rw (c.with_scan-next.ensures, ← c.push_near-took.ensures.took, ← c.push_near-took.ensures.levels, is)
+        | inr is ↦ rw (c.with_scan-next.ensures, ← c.push_near-took.ensures.took, ← c.push_near-took.ensures.levels, is)
+      ]
+    ]
 
 pub shape_of-levels-in-Full : goal.shape_of-levels-in-Full
 shape_of-levels-in-Full c =

@@ -2,4 +2,4 @@
 use Rattle.replay_turn.proofs.near.after_near.Goals as goal
 
 pub returns : goal.returns
-returns c = rw (c.stage_at-stage.ensures, c.bytes_of.ensures)
+returns c = rw (c.stage_at.ensures, c.bytes_of.ensures)
