@@ -1,4 +1,4 @@
-// Converts between a float and its bit pattern. The logic has one NaN and gives it no pattern, so every NaN's pattern reads as a NaN made by a division,
+// Converts between a float and its bit pattern. The logic has one NaN and gives it no pattern, so every NaN's pattern reads as the constant NaN,
 // and every NaN is written as the quiet one without a sign.
 ghost use Rattle.std.specs.Prelude.{◌≡◌, false};
 ghost use Rattle.std.specs.Float.{binary32, binary64};
@@ -21,7 +21,7 @@ pub fn float64(pattern: u64) -> f64
     ensures { result ≡ of_bits binary64 pattern }
 {
     if pattern % SIGN > INFINITE {
-        return 0.0 / 0.0;
+        return f64::NAN;
     }
     f64::from_bits(pattern)
 }
@@ -30,7 +30,7 @@ pub fn float32(pattern: u32) -> f32
     ensures { result ≡ of_bits binary32 pattern }
 {
     if pattern % SIGN_32 > INFINITE_32 {
-        return 0.0 / 0.0;
+        return f32::NAN;
     }
     f32::from_bits(pattern)
 }
@@ -38,19 +38,19 @@ pub fn float32(pattern: u32) -> f32
 pub fn pattern64(x: f64) -> u64
     ensures { result ≡ to_bits binary64 x }
 {
-    if x != x {
+    if x.is_nan() {
         return NO_NUMBER;
     }
-    f64::to_bits(x)
+    x.to_bits()
 }
 
 pub fn pattern32(x: f32) -> u32
     ensures { result ≡ to_bits binary32 x }
 {
-    if x != x {
+    if x.is_nan() {
         return NO_NUMBER_32;
     }
-    f32::to_bits(x)
+    x.to_bits()
 }
 
 // Gives the absolute value of a float that is not a NaN: the pattern with its sign clear. The processor would mispredict a test of the sign for every other sample.
@@ -58,5 +58,5 @@ pub fn unsigned(x: f64) -> f64
     requires { is_nan x ≡ false }
     ensures { result ≡ magnitude x }
 {
-    f64::from_bits(f64::to_bits(x) % SIGN)
+    f64::from_bits(x.to_bits() % SIGN)
 }

@@ -63,10 +63,7 @@ const TOO_LARGE: u64 = 0x47f0_0000_0000_0000;
 fn is_usual(b: u64) -> bool
     ensures { result ≡ true → (0x3810_0000_0000_0000 ≤ b) × (b < 0x47f0_0000_0000_0000) }
 {
-    if b < LOWEST {
-        return false;
-    }
-    b < TOO_LARGE
+    (LOWEST..TOO_LARGE).contains(&b)
 }
 
 // Narrows in the usual case: exponent and digits together lose 29 places, a tie goes to the even pattern, and the exponent's field counts from 2^-126 on.
@@ -153,9 +150,7 @@ fn mark(w: Wide) -> u64
     requires { Close w.s w.have w.want }
     ensures { Marked (w.s * w.s + w.have - w.want) result }
 {
-    let s = w.s;
-    let have = w.have;
-    let want = w.want;
+    let Wide { s, have, want } = w;
     if have < want {
         let d = s * 2 - 2;
         if have + d + 1 == want {
@@ -180,13 +175,11 @@ fn shift_up(t: u64) -> Up
     requires { (0 < t) × (t < 2 ^ 52) }
     ensures { Shifted t result.m result.z }
 {
-    let mut m = t;
-    let mut z: u64 = 0;
-    while m < LEADING {
-        m = m * 2;
-        z = z + 1;
+    let z = 52 - t.ilog2();
+    Up {
+        m: t << z,
+        z: u64::from(z),
     }
-    Up { m, z }
 }
 
 // Gives the pattern of the root of m * 2^(e - 2096), for an m of 53 digits.
@@ -209,9 +202,8 @@ fn root_size(guesses: &[u16], b: u64) -> u64
     if 0 < x {
         return root_scaled(guesses, t + LEADING, x + 1021);
     }
-    let up = shift_up(t);
-    let z = up.z;
-    root_scaled(guesses, up.m, 1022 - z)
+    let Up { m, z } = shift_up(t);
+    root_scaled(guesses, m, 1022 - z)
 }
 
 // Gives the pattern of an f64's square root. The table is lent.
@@ -238,18 +230,18 @@ pub fn root_bits(b: u64) -> u64
     root_bits_with(&guesses, b)
 }
 
-// ---- on floats. A NaN has no pattern in the logic, so it is made by a division.
+// ---- on floats. A NaN has no pattern in the logic, so it is never made from one.
 
 // Rounds an f64 to an f32.
 pub fn narrowed(x: f64) -> f32
     ensures { Narrows x result }
 {
-    if x != x {
-        return 0.0 / 0.0;
+    if x.is_nan() {
+        return f32::NAN;
     }
-    let n = narrow_bits(f64::to_bits(x));
+    let n = narrow_bits(x.to_bits());
     if n == NO_NUMBER_32 {
-        return 0.0 / 0.0;
+        return f32::NAN;
     }
     f32::from_bits(n)
 }
@@ -259,12 +251,12 @@ pub fn square_root_with(guesses: &[u16], x: f64) -> f64
     requires { Table guesses.now }
     ensures { Roots binary64 x result }
 {
-    if x != x {
-        return 0.0 / 0.0;
+    if x.is_nan() {
+        return f64::NAN;
     }
-    let n = root_bits_with(guesses, f64::to_bits(x));
+    let n = root_bits_with(guesses, x.to_bits());
     if n == NO_NUMBER {
-        return 0.0 / 0.0;
+        return f64::NAN;
     }
     f64::from_bits(n)
 }
@@ -276,24 +268,24 @@ pub fn square_root(x: f64) -> f64
     square_root_with(&guesses, x)
 }
 
-// Tells whether x is neither a NaN nor an infinity: a finite number less itself is 0.
+// Tells whether x is neither a NaN nor an infinity.
 pub fn is_finite(x: f64) -> bool
     ensures { result ≡ finite x }
 {
-    x - x == 0.0
+    x.is_finite()
 }
 
 pub fn is_finite32(x: f32) -> bool
     ensures { result ≡ finite x }
 {
-    x - x == 0.0
+    x.is_finite()
 }
 
 // Gives the absolute value.
 pub fn magnitude(x: f64) -> f64
     ensures { result ≡ Functions.magnitude x }
 {
-    if x != x {
+    if x.is_nan() {
         return x;
     }
     bits::unsigned(x)

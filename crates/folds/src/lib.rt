@@ -18,10 +18,8 @@ pub fn sum(xs: &[f32]) -> f64
     ensures { result ≡ sum_of xs.now }
 {
     let mut total = 0.0;
-    let mut i = 0;
-    while i < xs.len() {
-        total = total + std::num::f32_to_f64_with_nan(xs[i]);
-        i += 1;
+    for &x in xs {
+        total += f64::from(x);
     }
     total
 }
@@ -36,14 +34,12 @@ pub fn prefixes(xs: &[f32], sums: &mut [f64], squares: &mut [f64])
     let mut energy = 0.0;
     sums[0] = total;
     squares[0] = energy;
-    let mut i = 0;
-    while i < xs.len() {
-        let x = std::num::f32_to_f64_with_nan(xs[i]);
-        total = total + x;
-        energy = energy + x * x;
-        i += 1;
-        sums[i] = total;
-        squares[i] = energy;
+    for (i, &value) in xs.iter().enumerate() {
+        let x = f64::from(value);
+        total += x;
+        energy += x * x;
+        sums[i + 1] = total;
+        squares[i + 1] = energy;
     }
 }
 
@@ -53,15 +49,11 @@ pub fn search_down(xs: &[f64]) -> Peak
 {
     let mut value = 0.0;
     let mut place = 0;
-    let mut n = xs.len();
-    while n > 0 {
-        let k = n - 1;
-        let v = xs[k];
+    for (k, &v) in xs.iter().enumerate().rev() {
         if v > value {
             value = v;
             place = k as u64;
         }
-        n = k;
     }
     Peak { place, value }
 }
@@ -73,12 +65,8 @@ fn each_finite(xs: &[f32]) -> bool
     ensures { result ≡ all_finite xs.now }
 {
     let mut fine = true;
-    let mut i = 0;
-    while i < xs.len() {
-        if !floats::is_finite32(xs[i]) {
-            fine = false;
-        }
-        i += 1;
+    for &x in xs {
+        fine &= floats::is_finite32(x);
     }
     fine
 }
@@ -89,12 +77,8 @@ fn quarters_finite(xs: &[f32], q: usize) -> bool
     ensures { result ≡ true → (j : ℕ) → j < q + q + q + q → finite (at xs.now j) ≡ true }
 {
     let mut fine = true;
-    let mut i = 0;
-    while i < q {
-        if !floats::is_finite32(xs[i] + xs[q + i] + xs[q + q + i] + xs[q + q + q + i]) {
-            fine = false;
-        }
-        i += 1;
+    for i in 0..q {
+        fine &= floats::is_finite32(xs[i] + xs[q + i] + xs[q + q + i] + xs[q + q + q + i]);
     }
     fine
 }
@@ -114,12 +98,8 @@ pub fn all_finite64(xs: &[f64]) -> bool
     ensures { result ≡ all_finite xs.now }
 {
     let mut fine = true;
-    let mut i = 0;
-    while i < xs.len() {
-        if !floats::is_finite(xs[i]) {
-            fine = false;
-        }
-        i += 1;
+    for &x in xs {
+        fine &= floats::is_finite(x);
     }
     fine
 }
@@ -128,19 +108,11 @@ pub fn all_finite64(xs: &[f64]) -> bool
 pub fn clear32(xs: &mut [f32])
     ensures { xs.new ≡ zeros (length xs.old) }
 {
-    let mut i = 0;
-    while i < xs.len() {
-        xs[i] = 0.0;
-        i += 1;
-    }
+    xs.fill(0.0);
 }
 
 pub fn clear64(xs: &mut [f64])
     ensures { xs.new ≡ zeros (length xs.old) }
 {
-    let mut i = 0;
-    while i < xs.len() {
-        xs[i] = 0.0;
-        i += 1;
-    }
+    xs.fill(0.0);
 }

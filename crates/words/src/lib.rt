@@ -25,31 +25,20 @@ const INFINITE_32: u32 = 0x7f80_0000;
 pub fn half(w: u64, other: u32) -> u32
     ensures { result ≡ Words.half w other }
 {
-    if w < 0x1_0000_0000 {
-        return w as u32;
-    }
-    other
+    u32::try_from(w).unwrap_or(other)
 }
 
 pub fn all_below(limit: u64, first: u64, second: u64, third: u64) -> bool
     ensures { result ≡ all_below limit first second third }
 {
-    if first >= limit {
-        return false;
-    }
-    if second >= limit {
-        return false;
-    }
-    third < limit
+    first < limit && second < limit && third < limit
 }
 
 pub fn pattern(old: u64, x: f64) -> u64
     ensures { result ≡ pattern_of binary64 old x }
 {
-    if x != x {
-        if old % SIGN > INFINITE {
-            return old;
-        }
+    if x.is_nan() && old % SIGN > INFINITE {
+        return old;
     }
     bits::pattern64(x)
 }
@@ -57,10 +46,8 @@ pub fn pattern(old: u64, x: f64) -> u64
 pub fn pattern32(old: u32, x: f32) -> u32
     ensures { result ≡ pattern_of binary32 old x }
 {
-    if x != x {
-        if old % SIGN_32 > INFINITE_32 {
-            return old;
-        }
+    if x.is_nan() && old % SIGN_32 > INFINITE_32 {
+        return old;
     }
     bits::pattern32(x)
 }
@@ -68,10 +55,7 @@ pub fn pattern32(old: u32, x: f32) -> u32
 pub fn flag(b: bool) -> u64
     ensures { result ≡ flag_of b }
 {
-    if b {
-        return 1;
-    }
-    0
+    u64::from(b)
 }
 
 pub fn change_number(change: Change) -> u32
@@ -111,9 +95,5 @@ pub fn put(from: &[u64], to: &mut [u64])
     requires { length from.now ≡ length to.old }
     ensures { to.new ≡ from.now }
 {
-    let mut i = 0;
-    while i < from.len() {
-        to[i] = from[i];
-        i += 1;
-    }
+    to.copy_from_slice(from);
 }

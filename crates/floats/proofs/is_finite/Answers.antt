@@ -1,8 +1,7 @@
--- `floats::is_finite` meets its contract, by the law over the format.
-use lib.Ieee.{binary64, of_bits}
-use Rattle.floats.proofs.Finite.{less_itself}
+-- `floats::is_finite` meets its contract: std's test and the definition say the same, case by case.
+use mathlib.Core.Path.{◌∙◌}
+use Rattle.floats.proofs.Finite.{tested}
 use Rattle.floats.proofs.is_finite.Goals as goal
 
 pub returns : goal.returns
-unfolding of_bits
-returns c = less_itself binary64 c.args.x
+returns c = c.is_finite.ensures.value ∙ tested c.args.x

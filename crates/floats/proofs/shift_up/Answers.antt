@@ -1,46 +1,31 @@
--- `floats::shift_up` meets its contract. The loop's invariant: m is t, z places up, and z places at least.
-use mathlib.Core.Path.{◌≡◌, sym, ap, ◌∙◌, subst}
-use Prim.Native.Nat.{ℕ, ◌+◌, ◌-◌, ◌*◌, ◌^◌, ◌≤◌, ◌<◌}
-use native.Mathlib.Nat.{le_trans, le_of_suc-le-suc, mul-le-mul_right, mul-one, mul_assoc, pow-suc, lt_of_le_of_lt}
-use native.Mathlib.Numerals.{add-one}
-use native.Mathlib.Omega.{arith}
-use lib.Pow.{pow_pos}
-use borrow.Author.Rules.{rules}
+-- `floats::shift_up` meets its contract: a number whose highest digit is the k-th goes up by 52 - k places.
+use Rattle.std.proofs.Common.{◌≡◌, ℕ, ◌+◌, ◌-◌, ◌*◌, ◌%◌, ◌^◌, ◌≤◌, ◌<◌, sym, ap, ◌∙◌, subst, arith, mul_assoc}
+use native.Mathlib.Nat.{mul-le-mul_right, mod-eq_of_lt, lt_of_le_of_lt}
+use Rattle.std.proofs.Math.Nat.{mul-lt-mul_of_pos_right}
+use lib.Pow.{pow_pos, pow-add}
+use Rattle.floats.specs.Steps.{Shifted}
 use Rattle.floats.proofs.Pattern.{pow_lt_back}
 use Rattle.floats.proofs.shift_up.Goals as goal
 
-few : (m z : ℕ) → 2 ^ z ≤ m → m < 2 ^ 53 → z ≤ 52
-few m z h l = le_of_suc-le-suc (pow_lt_back z 53 (lt_of_le_of_lt h l))
+lifted : (t k z : ℕ) → k + z ≡ 52 → 2 ^ k ≤ t → t < 2 * 2 ^ k → Shifted t (t * 2 ^ z % 2 ^ 64) z
+lifted t k z e low high =
+    let whole : 2 ^ k * 2 ^ z ≡ 2 ^ 52 = sym (pow-add 2 k z) ∙ ap (λ (y : ℕ). 2 ^ y) e in
+    let least : 2 ^ 52 ≤ t * 2 ^ z = subst (λ (y : ℕ). y ≤ t * 2 ^ z) whole (mul-le-mul_right (2 ^ z) low) in
+    let most : t * 2 ^ z < 2 * (2 ^ k * 2 ^ z) = subst (λ (y : ℕ). t * 2 ^ z < y) (mul_assoc 2 (2 ^ k) (2 ^ z)) (mul-lt-mul_of_pos_right high (pow_pos z)) in
+    let below : t * 2 ^ z < 2 ^ 53 = subst (λ (y : ℕ). t * 2 ^ z < 2 * y) whole most in
+    let same : t * 2 ^ z % 2 ^ 64 ≡ t * 2 ^ z = mod-eq_of_lt (omega arith) in
+    record {
+      few = omega arith;
+      at_least = rw same least;
+      below = rw same below;
+      is = same;
+    }
 
-one-le : (m z : ℕ) → 2 ^ z ≤ m → 1 ≤ m
-one-le m z h = le_trans (pow_pos z) h
-
-next : (z : ℕ) → 2 ^ (z + 1) ≡ 2 ^ z * 2
-next z = ap (λ (y : ℕ). 2 ^ y) (add-one z) ∙ pow-suc 2 z
-
-pub loop-m-init : goal.loop-m-init
-loop-m-init c = (search rules, search rules, sym (mul-one c.args.t))
-
-pub overflow_mul-m : goal.overflow_mul-m
-overflow_mul-m c = omega arith
-
-pub overflow_add-z : goal.overflow_add-z
-overflow_add-z c = omega (arith, few c.loop-m.m c.loop-m.z c.loop-m.invariant.1 c.loop-m.invariant.0)
-
-pub loop-m-smaller : goal.loop-m-smaller
-loop-m-smaller c = omega (arith, one-le c.loop-m.m c.loop-m.z c.loop-m.invariant.1)
-
-pub loop-m-preserved : goal.loop-m-preserved
-loop-m-preserved c = (
-  omega arith,
-  subst (λ (y : ℕ). y ≤ c.loop-m.m * 2) (sym (next c.loop-m.z)) (mul-le-mul_right 2 c.loop-m.invariant.1),
-  ap (λ (y : ℕ). y * 2) c.loop-m.invariant.2 ∙ mul_assoc c.args.t (2 ^ c.loop-m.z) 2 ∙ ap (λ (y : ℕ). c.args.t * y) (sym (next c.loop-m.z)),
-)
+pub overflow_sub-z : goal.overflow_sub-z
+overflow_sub-z c = omega (arith, pow_lt_back c.ilog2-z.result 52 (lt_of_le_of_lt c.ilog2-z.ensures.power_le c.requires.1))
 
 pub returns : goal.returns
-returns c = record {
-  few = few c.loop-m.m c.loop-m.z c.loop-m.invariant.1 c.loop-m.invariant.0;
-  at_least = c.loop-m-test.false;
-  below = c.loop-m.invariant.0;
-  is = c.loop-m.invariant.2;
-}
+returns c =
+    let k = c.ilog2-z in
+    let few = pow_lt_back k.result 52 (lt_of_le_of_lt k.ensures.power_le c.requires.1) in
+    rw c.from.ensures (lifted c.args.t k.result (52 - k.result) (omega arith) k.ensures.power_le k.ensures.next_power_gt)

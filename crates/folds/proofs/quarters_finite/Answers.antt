@@ -1,26 +1,14 @@
 -- `folds::quarters_finite` meets its contract: the invariant is `Passed`.
-use Rattle.std.proofs.Common.{◌+◌, sym, ◌∙◌, arith}
-use Rattle.folds.proofs.Quarters.{none_passed, passes, fails, all_quarters}
+use Rattle.std.proofs.Common.{arith}
+use Rattle.folds.proofs.Quarters.{passes, all_quarters}
 use Rattle.folds.proofs.quarters_finite.Goals as goal
-use Rattle.folds.proofs.quarters_finite.Goals.{then-not-is_finite32, else-not-is_finite32}
-
-pub loop-i-init : goal.loop-i-init
-loop-i-init c = (omega arith, none_passed _ _)
-
-pub loop-i-smaller : goal.loop-i-smaller
-loop-i-smaller c = omega arith
 
 pub loop-i-preserved : goal.loop-i-preserved
 loop-i-preserved c =
     let l = c.loop-i in
-    let a = c.args in
-    let xs = a.xs.now in
-    let e = c.is_finite32.ensures in (
-      omega arith,
-      elim c.if-not-is_finite32.branch [ then-not-is_finite32 w ↦ rw w.fine-is (fails xs a.q (l.i + 1)) | else-not-is_finite32 w ↦ rw w.fine-is (passes xs a.q l.i l.fine (sym e ∙ w.if-not-is_finite32.false) l.invariant.1) ],
-    )
+    rw c.is_finite32-fine.ensures (passes c.args.xs.now c.args.q l.i l.fine l.invariant)
 
 pub returns : goal.returns
 returns c =
     let l = c.loop-i in
-    λ t. all_quarters _ _ (λ j s. l.invariant.1 t j (omega arith))
+    λ t. all_quarters _ _ (λ j s. l.invariant t j (omega arith))

@@ -1,23 +1,30 @@
--- `folds::search_down` meets its contract. Invariant: what was found is what the definition finds from n on.
-use Rattle.std.proofs.Common.{◌≡◌, true, false, arith}
+-- `folds::search_down` meets its contract. Invariant: what was found is what the definition finds behind the values that are still to come.
+use Rattle.std.proofs.Common.{true, false, ◌∙◌, arith}
+use Rattle.std.specs.Slice.Iter.{iter_rest}
 use lib.Ieee.{of_bits}
 use Rattle.answers.specs.Pick.{pick}
 use Rattle.folds.specs.Search.{search_down}
-use Rattle.folds.proofs.Peaks.{down_end, down_one}
+use Rattle.folds.proofs.Peaks.{nothing_met, one_met, all_met}
 use Rattle.folds.proofs.search_down.Goals as goal
 
-pub loop-n-init : goal.loop-n-init
+pub loop-k-init : goal.loop-k-init
 unfolding of_bits
-loop-n-init c = (omega arith, down_end c.args.xs.now)
+loop-k-init c = (cc, nothing_met c.args.xs.now _ (cc))
 
-pub loop-n-preserved-then-v-value : goal.loop-n-preserved-then-v-value
+pub loop-k-preserved-then-v-value : goal.loop-k-preserved-then-v-value
 unfolding pick
-loop-n-preserved-then-v-value c = (omega arith, down_one c.args.xs.now c.loop-n.n _ true (omega arith) c.loop-n.invariant.0 c.loop-n.invariant.1 c.if-v-value.true)
+loop-k-preserved-then-v-value c =
+    let s = c.in-Some.ensures.steps in
+    let n = c.next.new.self.iter.iter in
+    (s.0 ∙ c.loop-k.invariant.0, one_met c.args.xs.now _ (iter_rest n) _ _ _ true s.1.0 (omega (arith, s.1.1, c.loop-k.invariant.0)) c.if-v-value.true c.loop-k.invariant.1)
 
-pub loop-n-preserved : goal.loop-n-preserved
+pub loop-k-preserved : goal.loop-k-preserved
 unfolding pick
-loop-n-preserved c = (omega arith, down_one c.args.xs.now c.loop-n.n _ false (omega arith) c.loop-n.invariant.0 c.loop-n.invariant.1 c.if-v-value.false)
+loop-k-preserved c =
+    let s = c.in-Some.ensures.steps in
+    let n = c.next.new.self.iter.iter in
+    (s.0 ∙ c.loop-k.invariant.0, one_met c.args.xs.now _ (iter_rest n) c.in-Some.k _ _ false s.1.0 (omega (arith, s.1.1, c.loop-k.invariant.0)) c.if-v-value.false c.loop-k.invariant.1)
 
 pub returns : goal.returns
 unfolding search_down
-returns c = let z : c.loop-n.n ≡ 0 = omega arith in rw z at c.loop-n.invariant.1
+returns c = all_met c.args.xs.now _ _ c.in-None.ensures.steps.1.0 c.loop-k.invariant.1

@@ -1,9 +1,8 @@
-use Rattle.std.proofs.Common.{◌≡◌, ◌≤◌, length, drop}
-use Rattle.folds.specs.Search.{peak, down_from}
+use Rattle.std.proofs.Common.{◌≡◌}
+use Rattle.std.specs.Slice.Iter.{iter_rest}
+use Rattle.folds.specs.Search.{peak}
+use Rattle.folds.proofs.Peaks.{Searched}
 use Rattle.folds.proofs.search_down.Given as goal
 
-abbrev pub invariant-loop-n : goal.invariant-loop-n
-invariant-loop-n l = (l.n ≤ length l.xs) × (peak l.place l.value ≡ down_from (drop l.n l.xs) l.n)
-
-abbrev pub decreases-loop-n : goal.decreases-loop-n
-decreases-loop-n l = l.n
+abbrev pub invariant-loop-k : goal.invariant-loop-k
+invariant-loop-k l = (l.k-iterator.iter.count ≡ 0) × Searched l.xs (iter_rest l.k-iterator.iter.iter) (peak l.place l.value)

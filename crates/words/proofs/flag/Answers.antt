@@ -1,9 +1,14 @@
--- `words::flag` meets its contract.
-use Rattle.answers.proofs.Cases.{cases}
+-- `words::flag` meets its contract: case by case.
+use Rattle.std.proofs.Common.{◌≡◌, Bool, true, false, refl, ◌∙◌}
+use Rattle.std.specs.Int.{from_bool}
+use Rattle.answers.specs.Pick.{pick}
+use Rattle.words.specs.Words.{flag_of}
 use Rattle.words.proofs.flag.Goals as goal
 
-pub returns-then-b : goal.returns-then-b
-returns-then-b c = search cases
+same : (b : Bool) → from_bool b ≡ flag_of b
+unfolding pick
+same true = refl
+same false = refl
 
 pub returns : goal.returns
-returns c = search cases
+returns c = c.from.ensures ∙ same c.args.b
