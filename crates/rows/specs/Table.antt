@@ -1,5 +1,5 @@
 -- SPECIFICATION 15: every P row, one table under one claim, by computation of the definitions.
-use Rattle.std.specs.Prelude.{ℕ, zero, suc, ◌+◌, ◌≡◌, Bool, true, false, List, [], ◌∷◌, ◌++◌, eqb, Float}
+use Rattle.std.specs.Prelude.{ℕ, zero, suc, ◌+◌, ◌≡◌, Bool, true, false, List, [], ◌∷◌, ◌++◌, eqb, Float, None}
 use Rattle.std.specs.Float.{binary64}
 use Rattle.std.specs.Float.Ieee.{of_bits}
 use Rattle.answers.specs.Pick.{pick, either}
@@ -7,7 +7,6 @@ use Rattle.units.specs.Units.{bins, samples}
 use Rattle.floats.specs.Functions.{zero64, narrow_bits, root_bits}
 use Rattle.scan.specs.Bins.{geometry_of}
 use Rattle.scan.specs.Scoring.{most_products, at_ceiling}
-use Rattle.tracker.specs.declared.Delay.TheVariants.{Nothing}
 use Rattle.tracker.specs.declared.Outcome.{Outcome}
 use Rattle.tracker.specs.declared.Outcome.TheVariants.{Candidate, Unconfident}
 use Rattle.tracker.specs.declared.Tracker.{Tracker}
@@ -48,7 +47,7 @@ interior delay = Candidate (samples delay) true
 
 -- a tracker with a pending delay
 abbrev pub waiting : ℕ → ℕ → Tracker
-waiting rate pending = evidence (fresh rate) (tracker.delay_at pending) Nothing 0 0 0 false
+waiting rate pending = evidence (fresh rate) (tracker.delay_at pending) None 0 0 0 false
 
 abbrev pub verdicts : Tracker → ℕ → List Outcome → List (List ℕ)
 verdicts t alignment [] = []

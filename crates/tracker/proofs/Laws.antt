@@ -1,4 +1,5 @@
 -- The laws of a verdict: a refusal changes nothing, a move never lands past its candidate, and a verdict to reacquire leaves what its trigger says.
+use Rattle.std.specs.Prelude.{Option, None, Some}
 use Prim.Native.Nat.{ℕ, ◌≤◌, max}
 use mathlib.Core.Path.{◌≡◌, refl, sym, subst, ◌∙◌}
 use mathlib.Core.Bool.{Bool, true, false}
@@ -11,8 +12,6 @@ use Rattle.answers.specs.Refusals.{none}
 use Rattle.answers.specs.Told.{refused, change_told}
 use Rattle.units.specs.declared.Samples.{Samples}
 use Rattle.units.specs.Units.{samples}
-use Rattle.tracker.specs.declared.Delay.{Delay}
-use Rattle.tracker.specs.declared.Delay.TheVariants.{Nothing, At}
 use Rattle.tracker.specs.declared.Outcome.{Outcome}
 use Rattle.tracker.specs.declared.Outcome.TheVariants.{Candidate, Unconfident}
 use Rattle.tracker.specs.declared.Trigger.{Trigger}
@@ -106,28 +105,28 @@ escalated_leaves v t c h =
     pick_all (Escalates v (with_jumps t (next_count t.jumps))) c _ _ (λ e. (limit_tells (next_count t.jumps) 4 Jump v e, refl)) (λ e. absurd (no_hold v (sym e)))
 
 -- a run that is set twice, first to what it is, leaves no other tracker than one that is set once
-set_once : (t : Tracker) (p q : Delay) (e u : ℕ) (b : Bool) (run : ℕ) → t.jumps ≤ t.largest → with_jumps (evidence t p q e t.jumps u b) run ≡ evidence t p q e run u b
+set_once : (t : Tracker) (p q : Option Samples) (e u : ℕ) (b : Bool) (run : ℕ) → t.jumps ≤ t.largest → with_jumps (evidence t p q e t.jumps u b) run ≡ evidence t p q e run u b
 set_once t p q e u b run h = let k : max t.largest t.jumps ≡ t.largest = omega (arith, h) in rw k refl
 
-outside_leaves : (v : Trigger) (t : Tracker) (a : ℕ) (d : Samples) → t.jumps ≤ t.largest → Escalates v (evidence t (At d) (At d) 0 (next_count t.jumps) 0 t.suspect) (outside_cycle t a d.0)
+outside_leaves : (v : Trigger) (t : Tracker) (a : ℕ) (d : Samples) → t.jumps ≤ t.largest → Escalates v (evidence t (Some d) (Some d) 0 (next_count t.jumps) 0 t.suspect) (outside_cycle t a d.0)
 unfolding outside_cycle
 outside_leaves v t a d h =
-    pick_all (Escalates v (evidence t (At d) (At d) 0 (next_count t.jumps) 0 t.suspect)) (confirmed t d.0) _ _
+    pick_all (Escalates v (evidence t (Some d) (Some d) 0 (next_count t.jumps) 0 t.suspect)) (confirmed t d.0) _ _
     (λ e. clash (cc))
-    (λ e. let k = escalated_leaves v _ _ _ e in (k.0, k.1 ∙ set_once t (At d) (At d) 0 0 t.suspect _ h))
+    (λ e. let k = escalated_leaves v _ _ _ e in (k.0, k.1 ∙ set_once t (Some d) (Some d) 0 0 t.suspect _ h))
 
 abbrev after : Tracker → ℕ → Samples → Tracker
 after t a d =
     pick (outside_bands t a d.0)
-    (evidence t (At d) (At d) 0 (next_count t.jumps) 0 t.suspect)
-    (evidence t Nothing (At d) 0 (next_count t.jumps) 0 false)
+    (evidence t (Some d) (Some d) 0 (next_count t.jumps) 0 t.suspect)
+    (evidence t None (Some d) 0 (next_count t.jumps) 0 false)
 
 interior_leaves : (v : Trigger) (t : Tracker) (a : ℕ) (d : Samples) → t.jumps ≤ t.largest → Escalates v (after t a d) (interior_cycle t a d.0)
 unfolding interior_cycle
 interior_leaves v t a d l =
     pick_case (Escalates v (after t a d)) (outside_bands t a d.0) _ _
     (λ h e. let k = outside_leaves v t a d l e in (k.0, k.1 ∙ sym (pick_true _ _ _ h)))
-    (λ h e. let k = escalated_leaves v _ _ _ e in (k.0, (k.1 ∙ set_once t Nothing (At d) 0 0 false _ l) ∙ sym (pick_false _ _ _ h)))
+    (λ h e. let k = escalated_leaves v _ _ _ e in (k.0, (k.1 ∙ set_once t None (Some d) 0 0 false _ l) ∙ sym (pick_false _ _ _ h)))
 
 abbrev Reports : Trigger → Tracker → Samples → Outcome → Cycled → Type 0
 Reports v t a o r = verdict_told r.verdict ≡ reacquire v → Leaves v t a o r.tracker

@@ -1,4 +1,5 @@
 -- A tracker that keeps the rules keeps them through every call.
+use Rattle.std.specs.Prelude.{Option, None}
 use Prim.Native.Nat.{ℕ}
 use mathlib.Core.Path.{◌≡◌, refl}
 use mathlib.Core.Bool.{Bool, true}
@@ -10,8 +11,6 @@ use Rattle.answers.specs.Pick.{pick_true, pick_all, pick_case}
 use Rattle.answers.specs.Refusals.{none}
 use Rattle.answers.proofs.Refusals.{passed, passed_both}
 use Rattle.units.specs.declared.Samples.{Samples}
-use Rattle.tracker.specs.declared.Delay.{Delay}
-use Rattle.tracker.specs.declared.Delay.TheVariants.{Nothing}
 use Rattle.tracker.specs.declared.Outcome.{Outcome}
 use Rattle.tracker.specs.declared.Outcome.TheVariants.{Candidate, Unconfident}
 use Rattle.tracker.specs.declared.Bands.{Bands}
@@ -57,12 +56,12 @@ made_sound rate =
 
 -- ---- other evidence
 
-evidence_sound : (t : Tracker) (p q : Delay) (e j u : ℕ) (b : Bool) → Sound t → below_limit p ≡ true → below_limit q ≡ true → Sound (evidence t p q e j u b)
+evidence_sound : (t : Tracker) (p q : Option Samples) (e j u : ℕ) (b : Bool) → Sound t → below_limit p ≡ true → below_limit q ≡ true → Sound (evidence t p q e j u b)
 evidence_sound t p q e j u b s hp hq = record { rate = s.rate; bands = s.bands; pending = hp; prev = hq; largest = omega arith }
 
 pub seamed_sound : (t : Tracker) → Sound t → Sound (seamed t).tracker
 unfolding changed
-seamed_sound t s = pick_all (λ (r : Changed). Sound r.tracker) (eqb (state_refusal t) none) _ _ (evidence_sound t Nothing Nothing _ _ _ _ s refl refl) s
+seamed_sound t s = pick_all (λ (r : Changed). Sound r.tracker) (eqb (state_refusal t) none) _ _ (evidence_sound t None None _ _ _ _ s refl refl) s
 
 -- ---- a cycle
 
@@ -80,19 +79,19 @@ outside_sound : (t : Tracker) (a d : ℕ) → Sound t → ltb d limit ≡ true �
 unfolding outside_cycle
 outside_sound t a d s h =
     pick_all SoundAfter _ _ _
-    (evidence_sound t Nothing (delay_at d) _ _ _ _ s refl h)
+    (evidence_sound t None (delay_at d) _ _ _ _ s refl h)
     (escalated_sound _ _ _ (evidence_sound t (delay_at d) (delay_at d) _ _ _ _ s h h))
 
 interior_sound : (t : Tracker) (a d : ℕ) → Sound t → ltb d limit ≡ true → SoundAfter (interior_cycle t a d)
 unfolding interior_cycle
 interior_sound t a d s h =
-    pick_all SoundAfter _ _ _ (outside_sound t a d s h) (escalated_sound _ _ _ (evidence_sound t Nothing (delay_at d) _ _ _ _ s refl h))
+    pick_all SoundAfter _ _ _ (outside_sound t a d s h) (escalated_sound _ _ _ (evidence_sound t None (delay_at d) _ _ _ _ s refl h))
 
 judged_sound : (t : Tracker) (a : Samples) (o : Outcome) → Sound t → delay_below_limit o ≡ true → SoundAfter (judged t a o)
 unfolding judged unconfident_cycle edge_cycle
 judged_sound t a Unconfident s h = evidence_sound t t.pending t.prev _ _ _ _ s s.pending s.prev
 judged_sound t a (Candidate d i) s h =
-    pick_all SoundAfter i _ _ (interior_sound t a.0 d.0 s h) (evidence_sound t Nothing Nothing _ _ _ _ s refl refl)
+    pick_all SoundAfter i _ _ (interior_sound t a.0 d.0 s h) (evidence_sound t None None _ _ _ _ s refl refl)
 
 delay_accepted : (t : Tracker) (a : Samples) (o : Outcome) → cycle_refusal t a o ≡ none → delay_below_limit o ≡ true
 unfolding cycle_refusal

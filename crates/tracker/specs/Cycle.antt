@@ -1,12 +1,10 @@
 -- SPECIFICATION 10, and `on_cycle` of track.rs: one concluded cycle, case by case and in its order.
-use Rattle.std.specs.Prelude.{ℕ, ◌-◌, Bool, true, false, ltb, leb}
+use Rattle.std.specs.Prelude.{ℕ, ◌-◌, Bool, true, false, ltb, leb, Option, None, Some}
 use Rattle.answers.specs.Numbers.{limit, apart, next_count}
 use Rattle.answers.specs.Pick.{pick, either}
 use Rattle.answers.specs.Refusals.{none, too_large, require, before, if_refused}
 use Rattle.units.specs.declared.Samples.{Samples}
 use Rattle.units.specs.Units.{samples}
-use Rattle.tracker.specs.declared.Delay.{Delay}
-use Rattle.tracker.specs.declared.Delay.TheVariants.{Nothing, At}
 use Rattle.tracker.specs.declared.Outcome.{Outcome}
 use Rattle.tracker.specs.declared.Outcome.TheVariants.{Candidate, Unconfident}
 use Rattle.tracker.specs.declared.Trigger.{Trigger}
@@ -37,21 +35,21 @@ unconfident_cycle t =
 -- The candidate adds only to its own run, and is not compared with interior ones.
 unfoldable pub edge_cycle : Tracker → Cycled
 edge_cycle t =
-    cycle (evidence t Nothing Nothing (next_count t.edges) t.jumps 0 t.suspect)
+    cycle (evidence t None None (next_count t.edges) t.jumps 0 t.suspect)
     (at_limit (next_count t.edges) 3 Edge)
 
 -- ---- an interior candidate
 
-abbrev pub delay_at : ℕ → Delay
-delay_at delay = At (samples delay)
+abbrev pub delay_at : ℕ → Option Samples
+delay_at delay = Some (samples delay)
 
-abbrev pub farther_than : ℕ → Delay → ℕ → Bool
-farther_than far Nothing delay = false
-farther_than far (At p) delay = ltb far (apart delay p.0)
+abbrev pub farther_than : ℕ → Option Samples → ℕ → Bool
+farther_than far None delay = false
+farther_than far (Some p) delay = ltb far (apart delay p.0)
 
-abbrev pub as_near_as : ℕ → Delay → ℕ → Bool
-as_near_as near Nothing delay = false
-as_near_as near (At p) delay = leb (apart delay p.0) near
+abbrev pub as_near_as : ℕ → Option Samples → ℕ → Bool
+as_near_as near None delay = false
+as_near_as near (Some p) delay = leb (apart delay p.0) near
 
 -- The jump test compares consecutive candidates with each other, not with the alignment.
 unfoldable pub jumped : Tracker → ℕ → Bool
@@ -87,7 +85,7 @@ escalated t contradicted hadPrev =
 unfoldable pub outside_cycle : Tracker → ℕ → ℕ → Cycled
 outside_cycle t alignment delay =
     pick (confirmed t delay)
-    (cycle (evidence t Nothing (delay_at delay) 0 0 0 false) (Move (samples (landing t alignment delay))))
+    (cycle (evidence t None (delay_at delay) 0 0 0 false) (Move (samples (landing t alignment delay))))
     (escalated (evidence t (delay_at delay) (delay_at delay) 0 t.jumps 0 t.suspect) (contradicts t delay) (present t.prev))
 
 -- Inside the bands the alignment is confirmed again.
@@ -95,7 +93,7 @@ unfoldable pub interior_cycle : Tracker → ℕ → ℕ → Cycled
 interior_cycle t alignment delay =
     pick (outside_bands t alignment delay)
     (outside_cycle t alignment delay)
-    (escalated (evidence t Nothing (delay_at delay) 0 t.jumps 0 false) (jumped t delay) (present t.prev))
+    (escalated (evidence t None (delay_at delay) 0 t.jumps 0 false) (jumped t delay) (present t.prev))
 
 -- ---- the call
 

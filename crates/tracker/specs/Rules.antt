@@ -1,9 +1,8 @@
 -- What the laws of the tracker speak of: the rules of its state, and what each trigger leaves changed.
-use Rattle.std.specs.Prelude.{ℕ, ◌≤◌, ◌≡◌, true, false}
+use Rattle.std.specs.Prelude.{ℕ, ◌≤◌, ◌≡◌, true, false, None, Some}
 use Rattle.answers.specs.Numbers.{allowed_rate, next_count}
 use Rattle.answers.specs.Pick.{pick}
 use Rattle.units.specs.declared.Samples.{Samples}
-use Rattle.tracker.specs.declared.Delay.TheVariants.{Nothing, At}
 use Rattle.tracker.specs.declared.Outcome.{Outcome}
 use Rattle.tracker.specs.declared.Outcome.TheVariants.{Candidate, Unconfident}
 use Rattle.tracker.specs.declared.Trigger.{Trigger}
@@ -35,15 +34,15 @@ pub record Unsure (t : Tracker) (outcome : Outcome) (next : Tracker) : Type 0 wh
 pub record Pinned (t : Tracker) (outcome : Outcome) (next : Tracker) : Type 0 where
   pub delay : Samples
   pub edge : outcome ≡ Candidate delay false
-  pub leaves : next ≡ evidence t Nothing Nothing (next_count t.edges) t.jumps 0 t.suspect
+  pub leaves : next ≡ evidence t None None (next_count t.edges) t.jumps 0 t.suspect
 
 -- A contradicting candidate counted and is now the previous one. Outside the bands it is also pending; inside them it lifts suspicion.
 pub record Contradicted (t : Tracker) (alignment : Samples) (outcome : Outcome) (next : Tracker) : Type 0 where
   pub delay : Samples
   pub interior : outcome ≡ Candidate delay true
   pub leaves : next ≡ pick (outside_bands t alignment.0 delay.0)
-      (evidence t (At delay) (At delay) 0 (next_count t.jumps) 0 t.suspect)
-      (evidence t Nothing (At delay) 0 (next_count t.jumps) 0 false)
+      (evidence t (Some delay) (Some delay) 0 (next_count t.jumps) 0 t.suspect)
+      (evidence t None (Some delay) 0 (next_count t.jumps) 0 false)
 
 -- Says what a verdict to reacquire leaves, by its trigger. The verdict itself clears nothing.
 abbrev pub Leaves : Trigger → Tracker → Samples → Outcome → Tracker → Type 0

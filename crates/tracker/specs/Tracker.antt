@@ -1,5 +1,5 @@
 -- SPECIFICATION 10, and track.rs: the tracker's state and its rules, and every call but `on_cycle`.
-use Rattle.std.specs.Prelude.{ℕ, ◌*◌, ◌/◌, max, Bool, true, false, not, ltb, leb, eqb}
+use Rattle.std.specs.Prelude.{ℕ, ◌*◌, ◌/◌, max, Bool, true, false, not, ltb, leb, eqb, Option, None, Some, is_some}
 use Rattle.answers.specs.declared.Change.TheVariants as change
 use Rattle.answers.specs.declared.Count.{Count}
 use Rattle.answers.specs.declared.Flag.{Flag}
@@ -7,21 +7,19 @@ use Rattle.answers.specs.Answers.{counted, flagged}
 use Rattle.answers.specs.Numbers.{limit, allowed_rate}
 use Rattle.answers.specs.Pick.{pick, both, either}
 use Rattle.answers.specs.Refusals.{none, outside_table, broken_state, inconsistent_record, require, if_refused}
-use Rattle.tracker.specs.declared.Delay.{Delay}
-use Rattle.tracker.specs.declared.Delay.TheVariants.{Nothing, At}
+use Rattle.units.specs.declared.Samples.{Samples}
 use Rattle.tracker.specs.declared.Bands.{Bands}
 use Rattle.tracker.specs.declared.Tracker.{Tracker}
 use Rattle.tracker.specs.declared.Changed.{Changed}
 
 -- ---- delays and bands
 
-abbrev pub present : Delay → Bool
-present Nothing = false
-present (At d) = true
+abbrev pub present : Option Samples → Bool
+present = is_some
 
-abbrev pub below_limit : Delay → Bool
-below_limit Nothing = true
-below_limit (At d) = ltb d.0 limit
+abbrev pub below_limit : Option Samples → Bool
+below_limit None = true
+below_limit (Some d) = ltb d.0 limit
 
 -- Gives ms x rate / 1000, but at least 1.
 abbrev pub per_ms : ℕ → ℕ → ℕ
@@ -63,7 +61,7 @@ changed given refusal next =
 
 unfoldable pub fresh : ℕ → Tracker
 fresh rate =
-    record { rate = rate; bands = bands_of rate; pending = Nothing; prev = Nothing; edges = 0; jumps = 0; unconfident = 0; suspect = false; largest = 0 }
+    record { rate = rate; bands = bands_of rate; pending = None; prev = None; edges = 0; jumps = 0; unconfident = 0; suspect = false; largest = 0 }
 
 -- A refused making returns the tracker for rate 8,000.
 unfoldable pub made : ℕ → Changed
@@ -73,13 +71,13 @@ made rate =
     (record { tracker = fresh 8000; answer = change.Refused outside_table })
 
 -- Gives the same tracker other evidence. Whatever happens, the largest contradiction run stays or grows with the run.
-abbrev pub evidence : Tracker → Delay → Delay → ℕ → ℕ → ℕ → Bool → Tracker
+abbrev pub evidence : Tracker → Option Samples → Option Samples → ℕ → ℕ → ℕ → Bool → Tracker
 evidence t pending prev edges jumps unconfident suspect =
     record { rate = t.rate; bands = t.bands; pending = pending; prev = prev; edges = edges; jumps = jumps; unconfident = unconfident; suspect = suspect; largest = max t.largest jumps }
 
 -- `on_discontinuity`.
 abbrev pub seamed : Tracker → Changed
-seamed t = changed t (state_refusal t) (evidence t Nothing Nothing 0 0 0 true)
+seamed t = changed t (state_refusal t) (evidence t None None 0 0 0 true)
 
 abbrev pub jump_cycles : Tracker → Count
 jump_cycles t = counted (state_refusal t) t.jumps

@@ -3,19 +3,12 @@
 // hands back the tracker that it was given. Each contract is one equation with a definition of specs/.
 #![tactic(auto)]
 
-ghost use Rattle.std.specs.Prelude.{◌≡◌, ◌≤◌, max};
-ghost use Rattle.tracker.specs.Tracker.{present, below_limit, per_ms, bands_of, same_bands, fresh, made, state_refusal, changed, evidence, seamed, jump_cycles, longest_run, suspected, unfinished, quiescent};
-ghost use Rattle.tracker.specs.Cycle.{outside_bands, jumped, contradicts, confirmed, landing, unconfident_cycle, edge_cycle, with_jumps, escalated, outside_cycle, interior_cycle, judged, cycle_refusal, cycled};
+ghost use Rattle.std.specs.Prelude.{◌≡◌, ◌≤◌};
+ghost use Rattle.tracker.specs.Tracker.{below_limit, per_ms, bands_of, fresh, made, state_refusal, changed, evidence, seamed, jump_cycles, longest_run, suspected, unfinished, quiescent};
+ghost use Rattle.tracker.specs.Cycle.{outside_bands, jumped, contradicts, confirmed, landing, at_limit, unconfident_cycle, edge_cycle, with_jumps, escalated, outside_cycle, interior_cycle, judged, cycle_refusal, cycled};
 
 use answers::{Change, Count, Flag};
 use units::Samples;
-
-// A delay, or none.
-#[derive(Clone, Copy)]
-pub enum Delay {
-    Nothing,
-    At(Samples),
-}
 
 // What one concluded cycle observed.
 #[derive(Clone, Copy)]
@@ -42,7 +35,7 @@ pub enum Verdict {
 }
 
 // The tracker's distances in samples. They follow from the rate.
-#[derive(Clone, Copy)]
+#[derive(Clone, Copy, PartialEq, Eq)]
 pub struct Bands {
     pub late: u64,
     pub early: u64,
@@ -56,9 +49,9 @@ pub struct Tracker {
     pub rate: u32,
     pub bands: Bands,
     // A delay outside the bands that awaits its confirming cycle.
-    pub pending: Delay,
+    pub pending: Option<Samples>,
     // The previous interior candidate.
-    pub prev: Delay,
+    pub prev: Option<Samples>,
     // Runs of edge, contradicting and unconfident cycles.
     pub edges: u32,
     pub jumps: u32,
@@ -81,43 +74,21 @@ pub struct Cycled {
     pub verdict: Verdict,
 }
 
-impl Delay {
-    fn present(self) -> bool
-        ensures { result ≡ present self }
-    {
-        match self {
-            Delay::Nothing => false,
-            Delay::At(_) => true,
-        }
-    }
-
-    fn below_limit(self) -> bool
-        ensures { result ≡ below_limit self }
-    {
-        match self {
-            Delay::Nothing => true,
-            Delay::At(d) => d.0 < answers::LIMIT,
-        }
-    }
+// Tells whether there is no delay, or one that a call takes.
+fn below_limit(delay: Option<Samples>) -> bool
+    ensures { result ≡ below_limit delay }
+{
+    delay.is_none_or(|d| d.0 < answers::LIMIT)
 }
 
-impl Bands {
-    fn same(self, other: Bands) -> bool
-        ensures { result ≡ same_bands self other }
-    {
-        if self.late != other.late {
-            return false;
-        }
-        if self.early != other.early {
-            return false;
-        }
-        if self.agree != other.agree {
-            return false;
-        }
-        if self.apart != other.apart {
-            return false;
-        }
-        self.lead == other.lead
+// A run that reaches its limit asks to reacquire.
+fn at_limit(run: u32, most: u32, trigger: Trigger) -> Verdict
+    ensures { result ≡ at_limit run most trigger }
+{
+    if run >= most {
+        Verdict::Reacquire(trigger)
+    } else {
+        Verdict::Hold
     }
 }
 
@@ -150,8 +121,7 @@ impl Tracker {
         requires { ms ≤ 1000 }
         ensures { result ≡ per_ms ms rate }
     {
-        let n = ms * (rate as u64) / 1000;
-        if n < 1 { 1 } else { n }
+        (ms * (rate as u64) / 1000).max(1)
     }
 
     fn bands_of(rate: u32) -> Bands
@@ -172,8 +142,8 @@ impl Tracker {
         Tracker {
             rate,
             bands: Tracker::bands_of(rate),
-            pending: Delay::Nothing,
-            prev: Delay::Nothing,
+            pending: None,
+            prev: None,
             edges: 0,
             jumps: 0,
             unconfident: 0,
@@ -202,20 +172,13 @@ impl Tracker {
     fn refusal(self) -> u8
         ensures { result ≡ state_refusal self }
     {
-        let rate = self.rate;
-        let bands = self.bands;
-        let pending = self.pending;
-        let prev = self.prev;
-        if !answers::allowed_rate(rate) {
+        if !answers::allowed_rate(self.rate) {
             return answers::OUTSIDE_TABLE;
         }
-        if !bands.same(Tracker::bands_of(rate)) {
+        if self.bands != Tracker::bands_of(self.rate) {
             return answers::BROKEN_STATE;
         }
-        if !pending.below_limit() {
-            return answers::BROKEN_STATE;
-        }
-        if !prev.below_limit() {
+        if !below_limit(self.pending) || !below_limit(self.prev) {
             return answers::BROKEN_STATE;
         }
         if self.jumps > self.largest {
@@ -224,17 +187,12 @@ impl Tracker {
         0
     }
 
-    fn longer(run: u32, other: u32) -> u32
-        ensures { result ≡ max run other }
-    {
-        if run < other { other } else { run }
-    }
-
     // Gives the same tracker other evidence. Every tracker but a new one is made here, so that no contradicting run is missed.
+    // The six parts stay parameters: this contract, `Leaves` of specs/Rules and the laws of tracker_history name each of them.
     pub fn evidence(
         self,
-        pending: Delay,
-        prev: Delay,
+        pending: Option<Samples>,
+        prev: Option<Samples>,
         edges: u32,
         jumps: u32,
         unconfident: u32,
@@ -242,33 +200,30 @@ impl Tracker {
     ) -> Tracker
         ensures { result ≡ evidence self pending prev edges jumps unconfident suspect }
     {
-        let bands = self.bands;
         Tracker {
-            rate: self.rate,
-            bands,
             pending,
             prev,
             edges,
             jumps,
             unconfident,
             suspect,
-            largest: Tracker::longer(self.largest, jumps),
+            largest: self.largest.max(jumps),
+            ..self
         }
     }
 
     fn with_jumps(self, run: u32) -> Tracker
         ensures { result ≡ with_jumps self run }
     {
-        let pending = self.pending;
-        let prev = self.prev;
-        self.evidence(
+        let Tracker {
             pending,
             prev,
-            self.edges,
-            run,
-            self.unconfident,
-            self.suspect,
-        )
+            edges,
+            unconfident,
+            suspect,
+            ..
+        } = self;
+        self.evidence(pending, prev, edges, run, unconfident, suspect)
     }
 
     // Answers a call that changes the tracker to `next`; if it is refused, hands this tracker back.
@@ -291,7 +246,7 @@ impl Tracker {
     pub fn on_discontinuity(self) -> Changed
         ensures { result ≡ seamed self }
     {
-        let next = self.evidence(Delay::Nothing, Delay::Nothing, 0, 0, 0, true);
+        let next = self.evidence(None, None, 0, 0, 0, true);
         self.changed(self.refusal(), next)
     }
 
@@ -320,20 +275,11 @@ impl Tracker {
     fn unfinished(self) -> bool
         ensures { result ≡ unfinished self }
     {
-        let pending = self.pending;
-        if pending.present() {
-            return true;
-        }
-        if self.edges != 0 {
-            return true;
-        }
-        if self.jumps != 0 {
-            return true;
-        }
-        if self.unconfident != 0 {
-            return true;
-        }
-        self.suspect
+        self.pending.is_some()
+            || self.edges != 0
+            || self.jumps != 0
+            || self.unconfident != 0
+            || self.suspect
     }
 
     // Reports whether it has none.
@@ -347,96 +293,67 @@ impl Tracker {
     fn outside_bands(self, alignment: u64, delay: u64) -> bool
         ensures { result ≡ outside_bands self alignment delay }
     {
-        let bands = self.bands;
-        if answers::saturating_sub(alignment, delay) > bands.late {
-            return true;
-        }
-        answers::saturating_sub(delay, alignment) > bands.early
+        alignment.saturating_sub(delay) > self.bands.late
+            || delay.saturating_sub(alignment) > self.bands.early
     }
 
     // Tells whether a candidate is unrelated to the one before it.
     fn jumped(self, delay: u64) -> bool
         ensures { result ≡ jumped self delay }
     {
-        let bands = self.bands;
-        let prev = self.prev;
-        match prev {
-            Delay::Nothing => false,
-            Delay::At(p) => answers::abs_diff(delay, p.0) > bands.apart,
-        }
+        self.prev
+            .is_some_and(|p| delay.abs_diff(p.0) > self.bands.apart)
     }
 
     // Tells whether a candidate confirms the pending move.
     fn confirms(self, delay: u64) -> bool
         ensures { result ≡ confirmed self delay }
     {
-        let bands = self.bands;
-        let pending = self.pending;
-        match pending {
-            Delay::Nothing => false,
-            Delay::At(p) => answers::abs_diff(delay, p.0) <= bands.agree,
-        }
+        self.pending
+            .is_some_and(|p| delay.abs_diff(p.0) <= self.bands.agree)
     }
 
     // Tells where a confirmed move lands: a correction toward an earlier delay lands with a lead.
     fn landing(self, alignment: u64, delay: u64) -> u64
         ensures { result ≡ landing self alignment delay }
     {
-        let bands = self.bands;
         if delay < alignment {
-            return answers::saturating_sub(delay, bands.lead);
+            delay.saturating_sub(self.bands.lead)
+        } else {
+            delay
         }
-        delay
     }
 
     // Counts an unconfident cycle, which clears nothing.
     fn on_unconfident(self) -> Cycled
         ensures { result ≡ unconfident_cycle self }
     {
-        let pending = self.pending;
-        let prev = self.prev;
-        let run = answers::next_count(self.unconfident);
-        let tracker = self.evidence(pending, prev, self.edges, self.jumps, run, self.suspect);
-        if self.suspect {
-            if run >= Tracker::SUSPECT_UNCONFIDENT_CYCLES {
-                return Cycled {
-                    tracker,
-                    verdict: Verdict::Reacquire(Trigger::Seam),
-                };
-            }
-            return Cycled {
-                tracker,
-                verdict: Verdict::Hold,
-            };
-        }
-        if run >= Tracker::UNCONFIDENT_CYCLES {
-            return Cycled {
-                tracker,
-                verdict: Verdict::Reacquire(Trigger::Lost),
-            };
-        }
-        Cycled {
-            tracker,
-            verdict: Verdict::Hold,
-        }
+        let run = self.unconfident.saturating_add(1);
+        let Tracker {
+            pending,
+            prev,
+            edges,
+            jumps,
+            suspect,
+            ..
+        } = self;
+        let tracker = self.evidence(pending, prev, edges, jumps, run, suspect);
+        let verdict = if suspect {
+            at_limit(run, Tracker::SUSPECT_UNCONFIDENT_CYCLES, Trigger::Seam)
+        } else {
+            at_limit(run, Tracker::UNCONFIDENT_CYCLES, Trigger::Lost)
+        };
+        Cycled { tracker, verdict }
     }
 
     // Counts a candidate at an edge of the searched range. It adds only to its own run, and is not compared with others.
     fn on_edge(self) -> Cycled
         ensures { result ≡ edge_cycle self }
     {
-        let none = Delay::Nothing;
-        let run = answers::next_count(self.edges);
-        let tracker = self.evidence(none, none, run, self.jumps, 0, self.suspect);
-        if run >= Tracker::EDGE_CYCLES {
-            return Cycled {
-                tracker,
-                verdict: Verdict::Reacquire(Trigger::Edge),
-            };
-        }
+        let run = self.edges.saturating_add(1);
         Cycled {
-            tracker,
-            verdict: Verdict::Hold,
+            tracker: self.evidence(None, None, run, self.jumps, 0, self.suspect),
+            verdict: at_limit(run, Tracker::EDGE_CYCLES, Trigger::Edge),
         }
     }
 
@@ -445,27 +362,16 @@ impl Tracker {
         ensures { result ≡ escalated self contradicted had_prev }
     {
         if contradicted {
-            let run = answers::next_count(self.jumps);
+            let run = self.jumps.saturating_add(1);
             let tracker = self.with_jumps(run);
-            if run >= Tracker::JUMP_CYCLES {
-                return Cycled {
-                    tracker,
-                    verdict: Verdict::Reacquire(Trigger::Jump),
-                };
-            }
             return Cycled {
                 tracker,
-                verdict: Verdict::Hold,
+                verdict: at_limit(run, Tracker::JUMP_CYCLES, Trigger::Jump),
             };
         }
-        if had_prev {
-            return Cycled {
-                tracker: self.with_jumps(0),
-                verdict: Verdict::Hold,
-            };
-        }
+        let run = if had_prev { 0 } else { self.jumps };
         Cycled {
-            tracker: self.with_jumps(self.jumps),
+            tracker: self.with_jumps(run),
             verdict: Verdict::Hold,
         }
     }
@@ -474,40 +380,34 @@ impl Tracker {
     fn contradicts(self, delay: u64) -> bool
         ensures { result ≡ contradicts self delay }
     {
-        let pending = self.pending;
-        if self.jumped(delay) {
-            return true;
-        }
-        pending.present()
+        self.jumped(delay) || self.pending.is_some()
     }
 
     // Judges an interior candidate outside the bands: it confirms the pending move, or awaits its own confirmation.
     fn on_outside(self, alignment: u64, delay: u64) -> Cycled
         ensures { result ≡ outside_cycle self alignment delay }
     {
-        let here = Delay::At(Samples(delay));
-        let prev = self.prev;
+        let here = Some(Samples(delay));
         if self.confirms(delay) {
             return Cycled {
-                tracker: self.evidence(Delay::Nothing, here, 0, 0, 0, false),
+                tracker: self.evidence(None, here, 0, 0, 0, false),
                 verdict: Verdict::Move(Samples(self.landing(alignment, delay))),
             };
         }
         let waiting = self.evidence(here, here, 0, self.jumps, 0, self.suspect);
-        waiting.escalated(self.contradicts(delay), prev.present())
+        waiting.escalated(self.contradicts(delay), self.prev.is_some())
     }
 
     // Judges an interior candidate. Inside the bands it confirms the alignment again.
     fn on_interior(self, alignment: u64, delay: u64) -> Cycled
         ensures { result ≡ interior_cycle self alignment delay }
     {
-        let here = Delay::At(Samples(delay));
-        let prev = self.prev;
+        let here = Some(Samples(delay));
         if self.outside_bands(alignment, delay) {
             return self.on_outside(alignment, delay);
         }
-        let settled = self.evidence(Delay::Nothing, here, 0, self.jumps, 0, false);
-        settled.escalated(self.jumped(delay), prev.present())
+        let settled = self.evidence(None, here, 0, self.jumps, 0, false);
+        settled.escalated(self.jumped(delay), self.prev.is_some())
     }
 
     fn judge(self, alignment: Samples, outcome: Outcome) -> Cycled

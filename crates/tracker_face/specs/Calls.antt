@@ -1,5 +1,5 @@
 -- The tracker's calls on the words that a host lends.
-use Rattle.std.specs.Prelude.{ℕ, Bool, true, false, List, [], ltb, eqb}
+use Rattle.std.specs.Prelude.{ℕ, Bool, true, false, List, [], ltb, eqb, Some}
 use Rattle.answers.specs.declared.Count.{Count}
 use Rattle.answers.specs.declared.Flag.{Flag}
 use Rattle.answers.specs.Pick.{pick}
@@ -10,7 +10,6 @@ use Rattle.words.specs.Words.{fits, one_value}
 use Rattle.words.specs.Answers.{number, given}
 use Rattle.tracker.specs.declared.Changed.{Changed}
 use Rattle.tracker.specs.declared.Cycled.{Cycled}
-use Rattle.tracker.specs.declared.Delay.TheVariants.{At}
 use Rattle.tracker.specs.declared.Outcome.{Outcome}
 use Rattle.tracker.specs.declared.Outcome.TheVariants.{Candidate, Unconfident}
 use Rattle.tracker.specs.declared.Tracker.{Tracker}
@@ -42,7 +41,7 @@ outcome_of kind delay = pick (eqb kind 1) (Candidate (samples delay) true) (pick
 
 -- Any other kind is refused in the same way as a word of the state that encodes no case: the tracker is made to break a rule.
 unfoldable pub judged_as : Tracker → ℕ → Tracker
-judged_as t kind = pick (ltb kind 3) t (evidence t (At (samples limit)) t.prev t.edges t.jumps t.unconfident t.suspect)
+judged_as t kind = pick (ltb kind 3) t (evidence t (Some (samples limit)) t.prev t.edges t.jumps t.unconfident t.suspect)
 
 unfoldable pub cycled_on : Tracker → ℕ → ℕ → ℕ → Cycled
 cycled_on t alignment kind delay = cycled (judged_as t kind) (samples alignment) (outcome_of kind delay)

@@ -5,7 +5,7 @@ ghost use Rattle.std.specs.Prelude.{◌≡◌};
 ghost use Rattle.tracker_words.specs.Layout.{tracker_words};
 ghost use Rattle.tracker_face.specs.Calls.{judged_tracker, new_called, on_discontinuity_called, outcome_of, judged_as, cycled_on, on_cycle_called, jump_cycles_called, longest_run_called, suspect_called, quiescent_called};
 
-use tracker::{Cycled, Delay, Outcome, Tracker};
+use tracker::{Cycled, Outcome, Tracker};
 use tracker_words::answering;
 use units::Samples;
 
@@ -64,11 +64,9 @@ fn judged_as(tracker: Tracker, kind: u32) -> Tracker
     if kind < 3 {
         return tracker;
     }
-    let pending = Delay::At(Samples(answers::LIMIT));
-    let prev = tracker.prev;
     tracker.evidence(
-        pending,
-        prev,
+        Some(Samples(answers::LIMIT)),
+        tracker.prev,
         tracker.edges,
         tracker.jumps,
         tracker.unconfident,
@@ -118,9 +116,8 @@ pub extern "C" fn tmv_tracker_on_cycle(
         return refusal;
     }
     let cycled = cycle(tracker_words::load(state), alignment, kind, delay);
-    let next = cycled.tracker;
-    let verdict = cycled.verdict;
-    tracker_words::settle(state, answering::tell_verdict(values, verdict), next)
+    let number = answering::tell_verdict(values, cycled.verdict);
+    tracker_words::settle(state, number, cycled.tracker)
 }
 
 // ---- reports

@@ -1,5 +1,6 @@
 -- The induction: after an accepted history the tracker's fields are the words on that history. The tracker's counts stop at 2^32 - 1 where the words count on; no limit of
 -- 3, 4 or 8 can tell. A reacquire clears nothing, so no word asks whether there was one.
+use Rattle.std.specs.Prelude.{Option, None, Some}
 use Prim.Native.Nat.{ℕ, ◌+◌, ◌-◌, ◌^◌, min}
 use mathlib.Core.Path.{◌≡◌, refl, sym, ◌∙◌}
 use mathlib.Core.Bool.{Bool, true, false, not}
@@ -11,8 +12,6 @@ use Rattle.answers.specs.Numbers.{allowed_rate, next_count}
 use Rattle.answers.specs.Pick.{pick, both, either, pick_all, pick_case}
 use Rattle.answers.specs.Refusals.{none}
 use Rattle.units.specs.declared.Samples.{Samples}
-use Rattle.tracker.specs.declared.Delay.{Delay}
-use Rattle.tracker.specs.declared.Delay.TheVariants.{Nothing, At}
 use Rattle.tracker.specs.declared.Outcome.{Outcome}
 use Rattle.tracker.specs.declared.Outcome.TheVariants.{Candidate, Unconfident}
 use Rattle.tracker.specs.declared.Tracker.{Tracker}
@@ -28,10 +27,10 @@ pub new_tracker : (rate : ℕ) → (made rate).answer ≡ Done → (made rate).t
 unfolding made
 new_tracker rate = pick_all (λ (r : Changed). r.answer ≡ Done → r.tracker ≡ fresh rate) (allowed_rate rate) _ _ (λ e. refl) (λ e. cc)
 
-pub accepted_seam : (t : Tracker) → (seamed t).answer ≡ Done → (seamed t).tracker ≡ evidence t Nothing Nothing 0 0 0 true
+pub accepted_seam : (t : Tracker) → (seamed t).answer ≡ Done → (seamed t).tracker ≡ evidence t None None 0 0 0 true
 unfolding changed
 accepted_seam t =
-    pick_all (λ (r : Changed). r.answer ≡ Done → r.tracker ≡ evidence t Nothing Nothing 0 0 0 true) (eqb (state_refusal t) none) _ _ (λ e. refl) (λ e. cc)
+    pick_all (λ (r : Changed). r.answer ≡ Done → r.tracker ≡ evidence t None None 0 0 0 true) (eqb (state_refusal t) none) _ _ (λ e. refl) (λ e. cc)
 
 pub accepted_cycle : (t : Tracker) (a : Samples) (o : Outcome) → (IsRefused (cycled t a o).verdict → ⊥) → cycled t a o ≡ judged t a o
 unfolding cycled
@@ -68,7 +67,7 @@ module _ (rate : ℕ) (h : History) (t : Tracker) (f : Follows rate h t) where
 -- ---- an interior candidate, by the two tests
 
 module _ (rate : ℕ) (h : History) (a d : Samples) (o c : Bool) where
-  pending_by : outside rate a d ≡ o → agrees rate (pending_in rate h) d ≡ c → pick (both o c) Nothing (pick o (At d) Nothing) ≡ pending_in rate (cycle a (Candidate d true) ∷ h)
+  pending_by : outside rate a d ≡ o → agrees rate (pending_in rate h) d ≡ c → pick (both o c) None (pick o (Some d) None) ≡ pending_in rate (cycle a (Candidate d true) ∷ h)
   unfolding pending_in
   pending_by p q = simp (p, q)
 
@@ -80,7 +79,7 @@ module _ (rate : ℕ) (h : History) (a d : Samples) (o c : Bool) where
 jumps_follow : (rate : ℕ) (h : History) (t : Tracker) (run : ℕ) → Follows rate h t → Follows rate h (with_jumps t run)
 jumps_follow rate h t run f = record { bands = f.bands; pending = f.pending; suspect = f.suspect; edges = f.edges; unconfident = f.unconfident }
 
-module _ (rate : ℕ) (h : History) (t : Tracker) (f : Follows rate h t) (a d : Samples) (p q : Delay) (s : Bool)
+module _ (rate : ℕ) (h : History) (t : Tracker) (f : Follows rate h t) (a d : Samples) (p q : Option Samples) (s : Bool)
     (hp : p ≡ pending_in rate (cycle a (Candidate d true) ∷ h)) (hs : s ≡ suspicion rate (cycle a (Candidate d true) ∷ h)) where
   evidence_follows : (run : ℕ) → Follows rate (cycle a (Candidate d true) ∷ h) (evidence t p q 0 run 0 s)
   unfolding edges_since unconfident_run
@@ -127,7 +126,7 @@ fresh_follows : (rate : ℕ) → Follows rate [] (fresh rate)
 unfolding fresh pending_in suspicion edges_since unconfident_run
 fresh_follows rate = record { bands = refl; pending = refl; suspect = refl; edges = refl; unconfident = refl }
 
-seam_follows : (rate : ℕ) (h : History) (t : Tracker) → Follows rate h t → Follows rate (discontinuity ∷ h) (evidence t Nothing Nothing 0 0 0 true)
+seam_follows : (rate : ℕ) (h : History) (t : Tracker) → Follows rate h t → Follows rate (discontinuity ∷ h) (evidence t None None 0 0 0 true)
 unfolding pending_in suspicion edges_since unconfident_run
 seam_follows rate h t f = record { bands = f.bands; pending = refl; suspect = refl; edges = refl; unconfident = refl }
 

@@ -1,4 +1,5 @@
 -- Each word is its sentence, both directions.
+use Rattle.std.specs.Prelude.{Option, Some}
 use Prim.Native.Nat.{ℕ, ◌≤◌}
 use mathlib.Core.Path.{◌≡◌, refl, sym, ap, subst, ◌∙◌}
 use mathlib.Core.Bool.{Bool, true, false, not, true≢false, false≢true}
@@ -6,12 +7,11 @@ use mathlib.Core.List.{[], ◌∷◌, ◌++◌}
 use native.Mathlib.Omega.{arith}
 use lib.ListN.{length}
 use borrow.Author.Tests.{leb-true, le-leb}
+use Rattle.std.specs.Prelude as option
 use Rattle.answers.specs.Numbers.{apart}
 use Rattle.answers.specs.Pick.{pick, either, pick_true, pick_false, pick_case}
 use Rattle.answers.proofs.Passed.{both_true}
 use Rattle.units.specs.declared.Samples.{Samples}
-use Rattle.tracker.specs.declared.Delay.{Delay}
-use Rattle.tracker.specs.declared.Delay.TheVariants.{Nothing, At}
 use Rattle.tracker.specs.declared.Outcome.{Outcome}
 use Rattle.tracker.specs.declared.Outcome.TheVariants.{Candidate, Unconfident}
 use Rattle.tracker.specs.Tracker.{bands_of}
@@ -113,7 +113,7 @@ always_clears true m e = true≢false e
 always_clears false true e = true≢false e
 always_clears false false e = true≢false e
 
-pending_since : (rate : ℕ) (h : History) (delay : Samples) → pending_in rate h ≡ At delay → Pending rate h delay
+pending_since : (rate : ℕ) (h : History) (delay : Samples) → pending_in rate h ≡ Some delay → Pending rate h delay
 unfolding pending_in moves inside pick
 pending_since rate [] delay e = clash (cc)
 pending_since rate (cycle a Unconfident ∷ h) delay e =
@@ -128,7 +128,7 @@ pending_since rate (cycle a Unconfident ∷ h) delay e =
       none_since = (refl, r.none_since);
     }
 pending_since rate (cycle a (Candidate d true) ∷ h) delay e =
-    let Q : Delay → Type 0 = λ p. p ≡ At delay → Pending rate (cycle a (Candidate d true) ∷ h) delay in
+    let Q : Option Samples → Type 0 = λ p. p ≡ Some delay → Pending rate (cycle a (Candidate d true) ∷ h) delay in
     pick_case Q (confirms rate (pending_in rate h) a d) _ _
     (λ m e. clash (cc))
     (λ m. pick_case Q (outside rate a d) _ _
@@ -141,7 +141,7 @@ pending_since rate (cycle a (Candidate d false) ∷ h) delay e = clash (cc)
 pending_since rate (discontinuity ∷ h) delay e = clash (cc)
 
 still_pending : (rate : ℕ) (since : History) (a : Samples) (earlier : History) (delay : Samples) → outside rate a delay ≡ true → moves rate earlier a (Candidate delay true) ≡ false
-    → None (clears_pending rate) since (cycle a (Candidate delay true) ∷ earlier) → pending_in rate (since ++ (cycle a (Candidate delay true) ∷ earlier)) ≡ At delay
+    → None (clears_pending rate) since (cycle a (Candidate delay true) ∷ earlier) → pending_in rate (since ++ (cycle a (Candidate delay true) ∷ earlier)) ≡ Some delay
 unfolding pending_in moves inside pick
 still_pending rate [] a earlier delay o m n = pick_false _ _ _ m ∙ pick_true _ _ _ o
 still_pending rate (cycle b Unconfident ∷ since) a earlier delay o m n = still_pending rate since a earlier delay o m n.1
@@ -155,10 +155,10 @@ pending_reads rate h delay =
 
 -- ---- a move
 
-agreed : (rate : ℕ) (pending : Delay) (d : Samples) → agrees rate pending d ≡ true → (q : Samples) × (pending ≡ At q) × (apart d.0 q.0 ≤ (bands_of rate).agree)
+agreed : (rate : ℕ) (pending : Option Samples) (d : Samples) → agrees rate pending d ≡ true → (q : Samples) × (pending ≡ Some q) × (apart d.0 q.0 ≤ (bands_of rate).agree)
 unfolding agrees
-agreed rate Nothing d e = absurd (false≢true e)
-agreed rate (At q) d e = (q, refl, leb-true _ _ e)
+agreed rate option.None d e = absurd (false≢true e)
+agreed rate (Some q) d e = (q, refl, leb-true _ _ e)
 
 confirms_reads : (rate : ℕ) (h : History) (a : Samples) (o : Outcome) → moves rate h a o ≡ true → Confirms rate h a o
 unfolding moves
@@ -169,7 +169,7 @@ confirms_reads rate h a (Candidate d true) e =
     record { delay = d; interior = refl; outer = b.0; waiting = q.0; pending = (pending_reads rate h q.0).0 q.1; near = q.2 }
 confirms_reads rate h a (Candidate d false) e = absurd (false≢true e)
 
-confirming : (rate : ℕ) (h : History) (a d q : Samples) → outside rate a d ≡ true → pending_in rate h ≡ At q → apart d.0 q.0 ≤ (bands_of rate).agree → moves rate h a (Candidate d true) ≡ true
+confirming : (rate : ℕ) (h : History) (a d q : Samples) → outside rate a d ≡ true → pending_in rate h ≡ Some q → apart d.0 q.0 ≤ (bands_of rate).agree → moves rate h a (Candidate d true) ≡ true
 unfolding moves agrees
 confirming rate h a d q o p near = pick_true _ _ _ o ∙ rw p (le-leb _ _ near)
 

@@ -1,4 +1,5 @@
 -- The four verdicts, both directions each: a verdict is read off the tracker's fields, and these follow the history.
+use Rattle.std.specs.Prelude.{None}
 use Prim.Native.Nat.{ℕ, ◌+◌, ◌≤◌}
 use mathlib.Core.Path.{◌≡◌, refl, sym, ap, subst, ◌∙◌}
 use mathlib.Core.Logic.{◌↔◌}
@@ -11,7 +12,6 @@ use Rattle.answers.specs.Numbers.{next_count}
 use Rattle.answers.specs.Pick.{pick, both, pick_true, pick_all, pick_case}
 use Rattle.answers.proofs.Passed.{both_true}
 use Rattle.units.specs.declared.Samples.{Samples}
-use Rattle.tracker.specs.declared.Delay.TheVariants.{Nothing}
 use Rattle.tracker.specs.declared.Outcome.{Outcome}
 use Rattle.tracker.specs.declared.Outcome.TheVariants.{Candidate, Unconfident}
 use Rattle.tracker.specs.declared.Trigger.{Trigger}
@@ -99,7 +99,7 @@ interior_moves t a d =
     )
 
 abbrev Cleared : Tracker → Type 0
-Cleared t = (t.pending ≡ Nothing) × (t.jumps ≡ 0)
+Cleared t = (t.pending ≡ None) × (t.jumps ≡ 0)
 
 interior_clears : (t : Tracker) (a d : ℕ) → IsMove (interior_cycle t a d).verdict → Cleared (interior_cycle t a d).tracker
 unfolding interior_cycle outside_cycle

@@ -1,13 +1,11 @@
 -- Request m: "The service desk wants to explain each reacquire from the cycle history alone." This page says what a history is, and has the request's words as functions on
 -- it. Each looks back from the latest happening, as one would by hand. Only `tracker_after` and `Accepted` know of a tracker; the words use nothing of it but the bands,
 -- which follow from the rate. specs/Sentences has the request's own sentences, and proofs/Sentences proves that each word means its sentence.
-use Rattle.std.specs.Prelude.{ℕ, ◌+◌, ◌-◌, ◌≡◌, Bool, true, false, not, List, [], ◌∷◌, ltb}
+use Rattle.std.specs.Prelude.{ℕ, ◌+◌, ◌-◌, ◌≡◌, Bool, true, false, not, List, [], ◌∷◌, ltb, Option, None, Some}
 use Rattle.answers.specs.declared.Change.TheVariants.{Done}
 use Rattle.answers.specs.Numbers.{limit}
 use Rattle.answers.specs.Pick.{pick, both, either}
 use Rattle.units.specs.declared.Samples.{Samples}
-use Rattle.tracker.specs.declared.Delay.{Delay}
-use Rattle.tracker.specs.declared.Delay.TheVariants.{Nothing, At}
 use Rattle.tracker.specs.declared.Outcome.{Outcome}
 use Rattle.tracker.specs.declared.Outcome.TheVariants.{Candidate, Unconfident}
 use Rattle.tracker.specs.declared.Verdict.{Verdict}
@@ -35,17 +33,17 @@ outside rate alignment delay =
     either (ltb (bands_of rate).late (alignment.0 - delay.0)) (ltb (bands_of rate).early (delay.0 - alignment.0))
 
 -- "within the agreement distance of a pending delay": never, if none is pending
-unfoldable pub agrees : ℕ → Delay → Samples → Bool
+unfoldable pub agrees : ℕ → Option Samples → Samples → Bool
 agrees rate pending delay = as_near_as (bands_of rate).agree pending delay.0
 
 -- An interior candidate outside the bands confirms the pending delay if it agrees with it.
-abbrev pub confirms : ℕ → Delay → Samples → Samples → Bool
+abbrev pub confirms : ℕ → Option Samples → Samples → Samples → Bool
 confirms rate pending alignment delay = both (outside rate alignment delay) (agrees rate pending delay)
 
 -- An interior candidate leaves itself pending, unless it confirmed a move or is inside the bands.
-abbrev pub leaves_pending : ℕ → Delay → Samples → Samples → Delay
+abbrev pub leaves_pending : ℕ → Option Samples → Samples → Samples → Option Samples
 leaves_pending rate pending alignment delay =
-    pick (confirms rate pending alignment delay) Nothing (pick (outside rate alignment delay) (At delay) Nothing)
+    pick (confirms rate pending alignment delay) None (pick (outside rate alignment delay) (Some delay) None)
 
 -- ---- the words
 
@@ -66,12 +64,12 @@ edges_since (discontinuity ∷ h) = 0
 
 -- "a pending delay, which is that of the latest earlier interior candidate outside the bands, with no move then or since and no edge candidate, candidate inside the
 -- bands or discontinuity since"
-unfoldable pub pending_in : ℕ → History → Delay
-pending_in rate [] = Nothing
+unfoldable pub pending_in : ℕ → History → Option Samples
+pending_in rate [] = None
 pending_in rate (cycle a Unconfident ∷ h) = pending_in rate h
 pending_in rate (cycle a (Candidate d true) ∷ h) = leaves_pending rate (pending_in rate h) a d
-pending_in rate (cycle a (Candidate d false) ∷ h) = Nothing
-pending_in rate (discontinuity ∷ h) = Nothing
+pending_in rate (cycle a (Candidate d false) ∷ h) = None
+pending_in rate (discontinuity ∷ h) = None
 
 -- The cycle moves: "the candidate is interior, outside the bands and within the agreement distance of a pending delay"
 unfoldable pub moves : ℕ → History → Samples → Outcome → Bool

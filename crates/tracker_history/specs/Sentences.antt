@@ -1,10 +1,10 @@
 -- Request m: its sentences about a history, and its statements. A sentence names a part of the history and says what does not occur in it, as the paper does,
 -- so that nobody need trust the recursion of a word. The statements say that each word means its sentence, and exactly when a cycle gets which verdict.
-use Rattle.std.specs.Prelude.{ℕ, ◌+◌, ◌≤◌, ◌≡◌, Bool, true, false, not, ◌↔◌, [], ◌∷◌, ◌++◌, length}
+use Rattle.std.specs.Prelude.{ℕ, ◌+◌, ◌≤◌, ◌≡◌, Bool, true, false, not, ◌↔◌, [], ◌∷◌, ◌++◌, length, Some}
+use Rattle.std.specs.Prelude as option
 use Rattle.answers.specs.Numbers.{allowed_rate, apart}
 use Rattle.answers.specs.Pick.{pick, either}
 use Rattle.units.specs.declared.Samples.{Samples}
-use Rattle.tracker.specs.declared.Delay.TheVariants.{Nothing, At}
 use Rattle.tracker.specs.declared.Outcome.{Outcome}
 use Rattle.tracker.specs.declared.Outcome.TheVariants.{Candidate, Unconfident}
 use Rattle.tracker.specs.declared.Trigger.TheVariants.{Edge, Lost, Seam}
@@ -145,7 +145,7 @@ abbrev pub EdgesRead : Type 0
 EdgesRead = (least : ℕ) (h : History) → (least ≤ edges_since h) ↔ EdgesCame least h
 
 abbrev pub PendingReads : Type 0
-PendingReads = (rate : ℕ) (h : History) (delay : Samples) → (pending_in rate h ≡ At delay) ↔ Pending rate h delay
+PendingReads = (rate : ℕ) (h : History) (delay : Samples) → (pending_in rate h ≡ Some delay) ↔ Pending rate h delay
 
 abbrev pub MovesRead : Type 0
 MovesRead = (rate : ℕ) (h : History) (a : Samples) (o : Outcome) → (moves rate h a o ≡ true) ↔ Confirms rate h a o
@@ -192,7 +192,7 @@ MoveExactly = Exactly IsMove (λ rate h a o. moves rate h a o ≡ true)
 
 -- "it clears pending and the contradiction run, and its target never exceeds the candidate"
 pub record Moved (o : Outcome) (to : Samples) (next : Tracker) : Type 0 where
-  pub pending : next.pending ≡ Nothing
+  pub pending : next.pending ≡ option.None
   pub run : next.jumps ≡ 0
   pub early : (d : Samples) → o ≡ Candidate d true → to.0 ≤ d.0
 

@@ -8,7 +8,7 @@ use answers::{Change, Count, Flag};
 use pipes::rooms;
 use std::fs::File;
 use std::io::Stdout;
-use tracker::{Bands, Cycled, Delay, Outcome, Tracker, Trigger, Verdict};
+use tracker::{Bands, Cycled, Outcome, Tracker, Trigger, Verdict};
 use units::Samples;
 use vectors::Tally;
 
@@ -95,17 +95,17 @@ fn flagged(bytes: &[u8], at: usize, k: u64) -> bool
     vectors::number(bytes, at + 3, 1) & k == k
 }
 
-fn delay_of(there: bool, n: u64) -> Delay {
+fn delay_of(there: bool, n: u64) -> Option<Samples> {
     if there {
-        return Delay::At(Samples(n));
+        return Some(Samples(n));
     }
-    Delay::Nothing
+    None
 }
 
-fn same_delay(d: Delay, there: bool, n: u64) -> bool {
+fn same_delay(d: Option<Samples>, there: bool, n: u64) -> bool {
     match d {
-        Delay::Nothing => !there,
-        Delay::At(s) => if there { s.0 == n } else { false },
+        None => !there,
+        Some(s) => there && s.0 == n,
     }
 }
 

@@ -1,4 +1,5 @@
 -- What is stored loads again: `load_after_store`.
+use Rattle.std.specs.Prelude.{Option, None, Some}
 use Prim.Native.Nat.{ℕ}
 use mathlib.Core.Path.{◌≡◌, refl, ◌∙◌}
 use mathlib.Core.Bool.{true}
@@ -8,20 +9,19 @@ use borrow.Author.Tests.{lt-ltb}
 use Rattle.answers.specs.Pick.{pick, pick_true}
 use Rattle.words.specs.Words.{word}
 use Rattle.words.proofs.Back.{half_small, flag_reads, flag_case, all_below_lem}
-use Rattle.tracker.specs.declared.Delay.{Delay}
-use Rattle.tracker.specs.declared.Delay.TheVariants.{Nothing, At}
+use Rattle.units.specs.declared.Samples.{Samples}
 use Rattle.tracker.specs.declared.Tracker.{Tracker}
 use Rattle.tracker_words.specs.Layout.{loaded_bands, loaded_delay, are_cases, loaded_pending, loaded, delay_flag, delay_word, stored}
 use Rattle.tracker_words.specs.Fitting.{Fits, LoadsAfterStore}
 
-delay_case : (d : Delay) → ltb (delay_flag d) 2 ≡ true
-delay_case Nothing = refl
-delay_case (At d) = refl
+delay_case : (d : Option Samples) → ltb (delay_flag d) 2 ≡ true
+delay_case None = refl
+delay_case (Some d) = refl
 
-delay_back : (old : ℕ) (d : Delay) → loaded_delay (delay_flag d) (delay_word old d) ≡ d
+delay_back : (old : ℕ) (d : Option Samples) → loaded_delay (delay_flag d) (delay_word old d) ≡ d
 unfolding loaded_delay pick
-delay_back old Nothing = refl
-delay_back old (At d) = refl
+delay_back old None = refl
+delay_back old (Some d) = refl
 
 module _ (ws : List ℕ) (t : Tracker) (h : Fits t) where
   cases_hold : are_cases (stored ws t) ≡ true

@@ -1,12 +1,11 @@
 -- Says where each field of a tracker is in the 15 words that a host lends. Every 15 words load: those that no tracker stores load as one that breaks
 -- a rule, so that a call refuses them with 3 at its place among the refusals.
-use Rattle.std.specs.Prelude.{ℕ, ◌^◌, Bool, List, [], ◌∷◌, ltb, eqb}
+use Rattle.std.specs.Prelude.{ℕ, ◌^◌, Bool, List, [], ◌∷◌, ltb, eqb, Option, None, Some}
 use Rattle.answers.specs.Pick.{pick, both}
 use Rattle.answers.specs.Numbers.{limit}
 use Rattle.units.specs.Units.{samples}
+use Rattle.units.specs.declared.Samples.{Samples}
 use Rattle.tracker.specs.declared.Bands.{Bands}
-use Rattle.tracker.specs.declared.Delay.{Delay}
-use Rattle.tracker.specs.declared.Delay.TheVariants.{Nothing, At}
 use Rattle.tracker.specs.declared.Tracker.{Tracker}
 use Rattle.words.specs.Words.{word, half, all_below, flag_of}
 
@@ -19,8 +18,8 @@ tracker_words = 15
 unfoldable pub loaded_bands : List ℕ → Bands
 loaded_bands ws = record { late = word ws 1; early = word ws 2; agree = word ws 3; apart = word ws 4; lead = word ws 5 }
 
-unfoldable pub loaded_delay : ℕ → ℕ → Delay
-loaded_delay flag delay = pick (eqb flag 0) Nothing (At (samples delay))
+unfoldable pub loaded_delay : ℕ → ℕ → Option Samples
+loaded_delay flag delay = pick (eqb flag 0) None (Some (samples delay))
 
 -- Each number encodes a case: three flags, three runs of 32 bits, and the largest of one of them.
 unfoldable pub are_cases : List ℕ → Bool
@@ -30,8 +29,8 @@ are_cases ws =
     (ltb (word ws 14) (2 ^ 32)))
 
 -- A number that encodes no case loads as a pending delay of 2^62, which breaks a rule.
-unfoldable pub loaded_pending : List ℕ → Delay
-loaded_pending ws = pick (are_cases ws) (loaded_delay (word ws 6) (word ws 7)) (At (samples limit))
+unfoldable pub loaded_pending : List ℕ → Option Samples
+loaded_pending ws = pick (are_cases ws) (loaded_delay (word ws 6) (word ws 7)) (Some (samples limit))
 
 -- A rate of 2^32 or more loads as 0, which is outside the table.
 unfoldable pub loaded : List ℕ → Tracker
@@ -50,14 +49,14 @@ loaded ws =
 
 -- ---- storing
 
-abbrev pub delay_flag : Delay → ℕ
-delay_flag Nothing = 0
-delay_flag (At d) = 1
+abbrev pub delay_flag : Option Samples → ℕ
+delay_flag None = 0
+delay_flag (Some d) = 1
 
 -- Without a delay, its word keeps what it held.
-abbrev pub delay_word : ℕ → Delay → ℕ
-delay_word old Nothing = old
-delay_word old (At d) = d.0
+abbrev pub delay_word : ℕ → Option Samples → ℕ
+delay_word old None = old
+delay_word old (Some d) = d.0
 
 -- Gives the words of a tracker, stored over ws.
 unfoldable pub stored : List ℕ → Tracker → List ℕ

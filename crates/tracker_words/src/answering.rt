@@ -14,9 +14,7 @@ pub fn settle_change(state: &mut [u64], changed: Changed) -> u32
     ensures number { result ≡ number (change_told changed.answer) }
     ensures words { state.new ≡ changed_words state.old changed }
 {
-    let tracker = changed.tracker;
-    let answer = changed.answer;
-    crate::settle(state, words::change_number(answer), tracker)
+    crate::settle(state, words::change_number(changed.answer), changed.tracker)
 }
 
 fn trigger_number(trigger: Trigger) -> u32

@@ -4,7 +4,7 @@
 ghost use Rattle.std.specs.Prelude.{◌≡◌, length};
 ghost use Rattle.tracker_words.specs.Layout.{tracker_words, loaded_bands, loaded_delay, are_cases, loaded_pending, loaded, delay_flag, delay_word, stored, settled};
 
-use tracker::{Bands, Delay, Tracker};
+use tracker::{Bands, Tracker};
 use units::Samples;
 
 pub mod answering; // what a call answers
@@ -24,13 +24,13 @@ fn load_bands(state: &[u64]) -> Bands
     }
 }
 
-fn load_delay(flag: u64, delay: u64) -> Delay
+fn load_delay(flag: u64, delay: u64) -> Option<Samples>
     ensures { result ≡ loaded_delay flag delay }
 {
     if flag == 0 {
-        return Delay::Nothing;
+        return None;
     }
-    Delay::At(Samples(delay))
+    Some(Samples(delay))
 }
 
 // Tells whether each flag is 0 or 1, and each run and the largest one is a number of 32 bits.
@@ -38,23 +38,19 @@ fn are_cases(state: &[u64]) -> bool
     requires { length state.now ≡ tracker_words }
     ensures { result ≡ are_cases state.now }
 {
-    if !words::all_below(2, state[6], state[8], state[13]) {
-        return false;
-    }
-    if !words::all_below(0x1_0000_0000, state[10], state[11], state[12]) {
-        return false;
-    }
-    state[14] < 0x1_0000_0000
+    words::all_below(2, state[6], state[8], state[13])
+        && words::all_below(0x1_0000_0000, state[10], state[11], state[12])
+        && state[14] < 0x1_0000_0000
 }
 
-fn load_pending(state: &[u64]) -> Delay
+fn load_pending(state: &[u64]) -> Option<Samples>
     requires { length state.now ≡ tracker_words }
     ensures { result ≡ loaded_pending state.now }
 {
     if are_cases(state) {
         return load_delay(state[6], state[7]);
     }
-    Delay::At(Samples(answers::LIMIT))
+    Some(Samples(answers::LIMIT))
 }
 
 pub fn load(state: &[u64]) -> Tracker
@@ -74,49 +70,39 @@ pub fn load(state: &[u64]) -> Tracker
     }
 }
 
-fn delay_flag(delay: Delay) -> u64
+fn delay_flag(delay: Option<Samples>) -> u64
     ensures { result ≡ delay_flag delay }
 {
-    match delay {
-        Delay::Nothing => 0,
-        Delay::At(_) => 1,
-    }
+    words::flag(delay.is_some())
 }
 
 // Without a delay, its word keeps what it held.
-fn delay_word(old: u64, delay: Delay) -> u64
+fn delay_word(old: u64, delay: Option<Samples>) -> u64
     ensures { result ≡ delay_word old delay }
 {
-    match delay {
-        Delay::Nothing => old,
-        Delay::At(d) => d.0,
-    }
+    delay.map_or(old, |d| d.0)
 }
 
 fn store(state: &mut [u64], tracker: Tracker)
     requires { length state.old ≡ tracker_words }
     ensures { state.new ≡ stored state.old tracker }
 {
-    let largest = tracker.largest as u64;
-    let bands = tracker.bands;
-    let pending = tracker.pending;
-    let prev = tracker.prev;
     let stored = [
         tracker.rate as u64,
-        bands.late,
-        bands.early,
-        bands.agree,
-        bands.apart,
-        bands.lead,
-        delay_flag(pending),
-        delay_word(state[7], pending),
-        delay_flag(prev),
-        delay_word(state[9], prev),
+        tracker.bands.late,
+        tracker.bands.early,
+        tracker.bands.agree,
+        tracker.bands.apart,
+        tracker.bands.lead,
+        delay_flag(tracker.pending),
+        delay_word(state[7], tracker.pending),
+        delay_flag(tracker.prev),
+        delay_word(state[9], tracker.prev),
         tracker.edges as u64,
         tracker.jumps as u64,
         tracker.unconfident as u64,
         words::flag(tracker.suspect),
-        largest,
+        tracker.largest as u64,
     ];
     words::put(&stored, state);
 }

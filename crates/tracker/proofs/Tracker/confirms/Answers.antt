@@ -1,11 +1,8 @@
 -- `Tracker::confirms` meets its contract.
+use Rattle.std.proofs.Common.{rules}
 use Rattle.tracker.specs.Cycle.{confirmed}
 use Rattle.tracker.proofs.Tracker.confirms.Goals as goal
 
-pub returns-in-Nothing : goal.returns-in-Nothing
+pub returns : goal.returns
 unfolding confirmed
-returns-in-Nothing c = cc
-
-pub returns-in-At : goal.returns-in-At
-unfolding confirmed
-returns-in-At c = cc
+returns c = search rules

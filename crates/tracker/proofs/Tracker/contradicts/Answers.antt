@@ -7,6 +7,6 @@ pub returns-then-jumped : goal.returns-then-jumped
 unfolding contradicts
 returns-then-jumped c = search (cases, ← c.jumped.ensures)
 
-pub returns : goal.returns
+pub returns-else-jumped : goal.returns-else-jumped
 unfolding contradicts
-returns c = search (cases, ← c.jumped.ensures, ← c.present.ensures)
+returns-else-jumped c = search (cases, ← c.jumped.ensures, ← c.is_some.ensures)

@@ -2,19 +2,16 @@
 use Rattle.answers.proofs.Cases.{cases}
 use Rattle.tracker.specs.Cycle.{escalated}
 use Rattle.tracker.proofs.Tracker.escalated.Goals as goal
-
-pub returns-then-run-ge-JUMP_CYCLES : goal.returns-then-run-ge-JUMP_CYCLES
-unfolding escalated
-returns-then-run-ge-JUMP_CYCLES c = search (cases, ← c.next_count-run.ensures, c.with_jumps-tracker.ensures)
+use Rattle.tracker.proofs.Tracker.escalated.Goals.{then-had_prev, else-had_prev}
 
 pub returns-then-contradicted : goal.returns-then-contradicted
 unfolding escalated
-returns-then-contradicted c = search (cases, ← c.next_count-run.ensures, c.with_jumps-tracker.ensures)
-
-pub returns-then-had_prev : goal.returns-then-had_prev
-unfolding escalated
-returns-then-had_prev c = search (cases, c.with_jumps.ensures)
+returns-then-contradicted c = search (cases, ← c.saturating_add-run.ensures, c.with_jumps-tracker.ensures, c.at_limit.ensures)
 
 pub returns : goal.returns
 unfolding escalated
-returns c = search (cases, c.with_jumps-2.ensures)
+returns c =
+    elim c.if-had_prev.branch [
+      | then-had_prev w ↦ search (cases, c.with_jumps.ensures, w.run-is)
+      | else-had_prev w ↦ search (cases, c.with_jumps.ensures, w.run-is)
+    ]

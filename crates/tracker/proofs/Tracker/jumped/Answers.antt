@@ -1,11 +1,9 @@
 -- `Tracker::jumped` meets its contract.
+use Rattle.std.proofs.Common.{arith}
+use Rattle.std.proofs.lemmas.Grind.{common_steps}
 use Rattle.tracker.specs.Cycle.{jumped}
 use Rattle.tracker.proofs.Tracker.jumped.Goals as goal
 
-pub returns-in-Nothing : goal.returns-in-Nothing
+pub returns : goal.returns
 unfolding jumped
-returns-in-Nothing c = cc
-
-pub returns-in-At : goal.returns-in-At
-unfolding jumped
-returns-in-At c = cc
+returns c = grind (arith, common_steps)

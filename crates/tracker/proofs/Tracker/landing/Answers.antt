@@ -7,6 +7,6 @@ pub returns-then-delay-alignment : goal.returns-then-delay-alignment
 unfolding landing
 returns-then-delay-alignment c = search (cases, ← c.saturating_sub.ensures)
 
-pub returns : goal.returns
+pub returns-else-delay-alignment : goal.returns-else-delay-alignment
 unfolding landing
-returns c = search (cases)
+returns-else-delay-alignment c = search (cases)

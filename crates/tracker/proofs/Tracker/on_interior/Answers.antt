@@ -9,4 +9,4 @@ returns-then-outside_bands c = search (cases, ← c.outside_bands.ensures, c.on_
 
 pub returns : goal.returns
 unfolding interior_cycle
-returns c = simp (picks, c.if-outside_bands.false, ← c.outside_bands.ensures, c.evidence-settled.ensures, ← c.jumped.ensures, ← c.present.ensures, c.escalated.ensures)
+returns c = simp (picks, c.if-outside_bands.false, ← c.outside_bands.ensures, c.evidence-settled.ensures, ← c.jumped.ensures, ← c.is_some.ensures, c.escalated.ensures)

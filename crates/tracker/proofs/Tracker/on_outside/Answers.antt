@@ -9,4 +9,4 @@ returns-then-confirms c = search (cases, ← c.confirms.ensures, c.evidence.ensu
 
 pub returns : goal.returns
 unfolding outside_cycle
-returns c = simp (picks, c.if-confirms.false, ← c.confirms.ensures, c.evidence-waiting.ensures, ← c.contradicts.ensures, ← c.present.ensures, c.escalated.ensures)
+returns c = simp (picks, c.if-confirms.false, ← c.confirms.ensures, c.evidence-waiting.ensures, ← c.contradicts.ensures, ← c.is_some.ensures, c.escalated.ensures)

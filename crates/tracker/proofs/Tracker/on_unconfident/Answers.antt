@@ -3,18 +3,10 @@ use Rattle.answers.proofs.Cases.{cases}
 use Rattle.tracker.specs.Cycle.{unconfident_cycle}
 use Rattle.tracker.proofs.Tracker.on_unconfident.Goals as goal
 
-pub returns-then-run-ge-SUSPECT_UNCONFIDENT_CYCLES : goal.returns-then-run-ge-SUSPECT_UNCONFIDENT_CYCLES
+pub returns-then-suspect : goal.returns-then-suspect
 unfolding unconfident_cycle
-returns-then-run-ge-SUSPECT_UNCONFIDENT_CYCLES c = search (cases, ← c.next_count-run.ensures, c.evidence-tracker.ensures)
+returns-then-suspect c = search (cases, ← c.saturating_add-run.ensures, c.evidence-tracker.ensures, c.at_limit-verdict.ensures)
 
-pub returns-then-self : goal.returns-then-self
+pub returns-else-suspect : goal.returns-else-suspect
 unfolding unconfident_cycle
-returns-then-self c = search (cases, ← c.next_count-run.ensures, c.evidence-tracker.ensures)
-
-pub returns-then-run-ge-UNCONFIDENT_CYCLES : goal.returns-then-run-ge-UNCONFIDENT_CYCLES
-unfolding unconfident_cycle
-returns-then-run-ge-UNCONFIDENT_CYCLES c = search (cases, ← c.next_count-run.ensures, c.evidence-tracker.ensures)
-
-pub returns : goal.returns
-unfolding unconfident_cycle
-returns c = search (cases, ← c.next_count-run.ensures, c.evidence-tracker.ensures)
+returns-else-suspect c = search (cases, ← c.saturating_add-run.ensures, c.evidence-tracker.ensures, c.at_limit-verdict-else-suspect.ensures)
