@@ -1,23 +1,20 @@
 -- Laws of little-endian numbers and of samples.
-use Rattle.std.specs.Prelude.{None}
-use mathlib.Core.Path.{◌≡◌, refl, sym, ap, ◌∙◌}
+use Rattle.std.specs.Prelude.{Some, None}
+use Rattle.std.specs.Bool.{then_some}
+use mathlib.Core.Path.{◌≡◌, refl}
 use mathlib.Core.Bool.{Bool, true, false}
-use mathlib.Core.List.{List, [], ◌∷◌, ◌++◌}
-use Prim.Native.Nat.{ℕ, zero, suc, ◌+◌, ◌*◌, ◌/◌, ◌<◌, ◌≤◌, min}
+use mathlib.Core.List.{List, ◌++◌}
+use Prim.Native.Nat.{ℕ, suc, ◌+◌, ◌*◌, ◌<◌, ◌≤◌}
 use native.Mathlib.Numerals.{add-one}
 use native.Mathlib.Omega.{arith}
-use lib.ListN.{length, take, drop, get_or, set, take-append-drop}
-use lib.Seq.{drop-cons, drop-drop, take-suc-set, drop-set-lt}
+use lib.ListN.{length, take, drop, get_or, set, length-take}
+use Rattle.std.proofs.lemmas.List.{take_all}
+use lib.Seq.{drop-cons, take-suc-set}
 use lib.Ieee.{Float}
-use borrow.Author.Tests.{leb-true, le-leb, lt-leb}
-use Rattle.answers.specs.Pick.{pick_true, pick_false}
-use Rattle.answers.specs.Numbers.{allowed_rate, allowed_ceiling}
-use Rattle.answers.proofs.Passed.{both_true}
+use Rattle.answers.specs.Pick.{pick}
 use Rattle.recording.specs.Bytes.{number_at}
-use Rattle.recording.specs.Recording.{u32_at, shape_at, headed, opened}
-use Rattle.recording.specs.Samples.{width, samples_in, sample_at, decoded_count, decoded, supplied}
+use Rattle.recording.specs.Samples.{samples_in, sample_at, decoded_count, decoded}
 use Rattle.recording.specs.declared.Form.{Form}
-use Rattle.recording.specs.declared.Form.TheVariants.{Plain, Floats}
 
 -- ---- numbers
 
@@ -39,32 +36,24 @@ number_four s at h =
 pub number_two : (s : List ℕ) (at : ℕ) → at + 2 ≤ length s → number_at 2 s at ≡ get_or s at 0 + 256 * get_or s (at + 1) 0
 number_two s at h = rw (number_cons 1 s at (omega arith), number_cons 0 s (at + 1) (omega arith), number_none) (omega arith)
 
-pub number_eight : (s : List ℕ) (at : ℕ) → at + 8 ≤ length s → number_at 8 s at ≡ number_at 4 s at + 4294967296 * number_at 4 s (at + 4)
+pub number_eight : (s : List ℕ) (at : ℕ) → at + 8 ≤ length s
+    → number_at 8 s at ≡ get_or s at 0 + 256 * get_or s (at + 1) 0 + 65536 * get_or s (at + 2) 0 + 16777216 * get_or s (at + 3) 0
+    + 4294967296 * (get_or s (at + 4) 0 + 256 * get_or s (at + 5) 0 + 65536 * get_or s (at + 6) 0 + 16777216 * get_or s (at + 7) 0)
 number_eight s at h =
     let a : at + 1 + 1 ≡ at + 2 = omega arith in
     let b : at + 2 + 1 ≡ at + 3 = omega arith in
     let d : at + 3 + 1 ≡ at + 4 = omega arith in
-    rw (number_cons 7 s at (omega arith), number_cons 6 s (at + 1) (omega arith), a, number_cons 5 s (at + 2) (omega arith), b, number_cons 4 s (at + 3) (omega arith), d, number_four s at (omega arith)) (omega arith)
+    let e : at + 4 + 1 ≡ at + 5 = omega arith in
+    let f : at + 4 + 2 ≡ at + 6 = omega arith in
+    let g : at + 4 + 3 ≡ at + 7 = omega arith in
+    rw (number_cons 7 s at (omega arith), number_cons 6 s (at + 1) (omega arith), a, number_cons 5 s (at + 2) (omega arith), b, number_cons 4 s (at + 3) (omega arith), d, number_four s (at + 4) (omega arith), e, f, g) (omega arith)
 
--- ---- the header
+-- ---- tests
 
-module _ (s : List ℕ) where
-  pub opened_short : length s < 24 → opened s ≡ None
-  unfolding opened
-  opened_short h = pick_false _ _ _ (pick_false _ _ _ (lt-leb 24 (length s) h))
-
-  module _ (whole : 24 ≤ length s) where
-    pub rate_refused : allowed_rate (u32_at s 0) ≡ false → opened s ≡ None
-    unfolding opened
-    rate_refused r = pick_false _ _ _ (pick_true _ _ _ (le-leb 24 (length s) whole) ∙ pick_false _ _ _ r)
-
-    pub ceiling_refused : allowed_rate (u32_at s 0) ≡ true → allowed_ceiling (u32_at s 4) ≡ false → opened s ≡ None
-    unfolding opened
-    ceiling_refused r c = pick_false _ _ _ (pick_true _ _ _ (le-leb 24 (length s) whole) ∙ pick_true _ _ _ r ∙ c)
-
-    pub in_table : allowed_rate (u32_at s 0) ≡ true → allowed_ceiling (u32_at s 4) ≡ true → opened s ≡ headed s (shape_at s)
-    unfolding opened
-    in_table r c = pick_true _ _ _ (pick_true _ _ _ (le-leb 24 (length s) whole) ∙ pick_true _ _ _ r ∙ c)
+pub then_some_picks : {T : Type 0} (test : Bool) (x : T) → then_some test x ≡ pick test (Some x) None
+unfolding pick
+then_some_picks true x = refl
+then_some_picks false x = refl
 
 -- ---- samples
 
@@ -74,28 +63,12 @@ pub decode_more : (form : Form) (s : List ℕ) (out : List Float) (i : ℕ) (x :
 unfolding samples_in
 decode_more form s out i x h e q = rw (add-one, take-suc-set, e, q)
 
-pub rest_more : (out rest : List Float) (i : ℕ) (x : Float) → drop i out ≡ drop i rest → drop (i + 1) (set out i x) ≡ drop (i + 1) rest
-rest_more out rest i x e = drop-set-lt (i + 1) out i x (omega arith) ∙ sym (drop-drop 1 i out) ∙ ap (drop 1) e ∙ drop-drop 1 i rest
-
 -- all of them
-pub decode_all : (form : Form) (s : List ℕ) (out out₀ : List Float) (n i : ℕ) → n ≡ min (length out₀) (length s / width form) → i ≤ n → n ≤ i → take i out ≡ samples_in form s i
-    → drop i out ≡ drop i out₀ → (n ≡ decoded_count form s out₀) × (out ≡ decoded form s out₀)
+pub decode_all : (form : Form) (s : List ℕ) (out items : List Float) (n i : ℕ) → n ≡ decoded_count form s out → length items ≡ length (take n out) → i ≤ length (take n out)
+    → length (take n out) ≤ i → take i items ≡ samples_in form s i → (n ≡ decoded_count form s out) × (items ++ drop n out ≡ decoded form s out)
 unfolding decoded
-decode_all form s out out₀ n i m a b t d =
-    let e : i ≡ decoded_count form s out₀ = omega arith in
-    (m, sym (take-append-drop i out) ∙ rw (t, d, e))
-
--- both forms of f32 read alike
-pub floats_alike : (s : List ℕ) (n : ℕ) → samples_in Plain s n ≡ samples_in Floats s n
-unfolding samples_in
-floats_alike s zero = refl
-floats_alike s (suc n) = ap (λ (xs : List Float). xs ++ sample_at Plain s n ∷ []) (floats_alike s n)
-
-pub decoded_alike : (s : List ℕ) (out : List Float) → decoded Plain s out ≡ decoded Floats s out
-unfolding decoded
-decoded_alike s out = ap (λ (xs : List Float). xs ++ drop (decoded_count Plain s out) out) (floats_alike s (decoded_count Plain s out))
-
--- ---- totals
-
-pub supplied_most : (form : Form) (samples total length : ℕ) (test : Bool) → test ≡ supplied form samples total length → test ≡ true → samples ≤ total
-supplied_most form samples total length test e passed = leb-true samples total (both_true _ _ (sym e ∙ passed)).0
+decode_all form s out items n i m l a b t =
+    let k : length (take n out) ≡ n = omega (arith, length-take n out) in
+    let e : i ≡ n = omega arith in
+    let all : take n items ≡ items = take_all n items (omega arith) in
+    (m, rw (← all) (rw (← e, t, e, m)))

@@ -1,17 +1,17 @@
 // Reads a recording: its header, its events and their samples.
 #![tactic(auto)]
 
-ghost use Rattle.std.specs.Prelude.{◌≡◌, ◌+◌, ◌^◌, ◌≤◌, ◌<◌, length, get_or};
+ghost use Rattle.std.specs.Prelude.{◌≡◌, ℕ, ◌+◌, ◌/◌, ◌^◌, ◌≤◌, ◌<◌, length, get_or, Some, None, Float};
 ghost use Rattle.recording.specs.Bytes.{number_at};
 ghost use Rattle.recording.specs.Recording;
-ghost use Rattle.answers.specs.Pick.{both};
+ghost use Rattle.answers.specs.Pick.{pick, both};
 ghost use Rattle.recording.specs.Recording.{sibling_of, shape_at, header_at, opened, header_length, offset_of, some_samples, only_if, event_of, event_at};
 ghost use Rattle.recording.specs.Samples;
-ghost use Rattle.recording.specs.Samples.{bytes_of, samples_of, decoded, decoded_count, admitted, all_used};
+ghost use Rattle.recording.specs.Samples.{sample_at, bytes_of, samples_of, decoded, decoded_count, admitted, all_used};
 
 // How a recording stores its samples: Plain is the form of the scope paper, with 24 bytes of header and f32 samples. Its siblings have 28 bytes of header, and
 // f32 samples (Floats) or signed 16-bit ones (Shorts).
-#[derive(Clone, Copy)]
+#[derive(Clone, Copy, PartialEq, Eq, Debug)]
 pub enum Form {
     Plain,
     Floats,
@@ -55,46 +55,35 @@ pub struct Lengths {
     pub near: u64,
 }
 
-fn wide(x: u32) -> u64
-    ensures { result ≡ x }
+// Reads the number in two bytes.
+pub fn u16_at(s: &[u8], at: usize) -> u16
+    requires { at + 2 ≤ length s.now }
+    ensures { result ≡ number_at 2 s.now at }
 {
-    x as u64
-}
-
-fn byte(s: &[u8], at: usize) -> u64
-    requires { at < length s.now }
-    ensures { (result ≡ get_or s.now at 0) × (result < 256) }
-{
-    s[at] as u64
-}
-
-// Reads the number in four bytes.
-fn four(s: &[u8], at: usize) -> u64
-    requires { at + 4 ≤ length s.now }
-    ensures { (result ≡ number_at 4 s.now at) × (result < 2 ^ 32) }
-{
-    byte(s, at) + 256 * byte(s, at + 1) + 65536 * byte(s, at + 2) + 16777216 * byte(s, at + 3)
+    u16::from_le_bytes([s[at], s[at + 1]])
 }
 
 pub fn u32_at(s: &[u8], at: usize) -> u32
     requires { at + 4 ≤ length s.now }
     ensures { result ≡ number_at 4 s.now at }
 {
-    four(s, at) as u32
+    u32::from_le_bytes([s[at], s[at + 1], s[at + 2], s[at + 3]])
 }
 
 fn u64_at(s: &[u8], at: usize) -> u64
     requires { at + 8 ≤ length s.now }
     ensures { result ≡ number_at 8 s.now at }
 {
-    four(s, at) + 4294967296 * four(s, at + 4)
-}
-
-pub fn u16_at(s: &[u8], at: usize) -> u16
-    requires { at + 2 ≤ length s.now }
-    ensures { result ≡ number_at 2 s.now at }
-{
-    (byte(s, at) + 256 * byte(s, at + 1)) as u16
+    u64::from_le_bytes([
+        s[at],
+        s[at + 1],
+        s[at + 2],
+        s[at + 3],
+        s[at + 4],
+        s[at + 5],
+        s[at + 6],
+        s[at + 7],
+    ])
 }
 
 // ---- the header
@@ -115,17 +104,11 @@ fn shape_at(s: &[u8]) -> Option<Form>
     requires { 24 ≤ length s.now }
     ensures { result ≡ shape_at s.now }
 {
-    let offset = u32_at(s, 12);
-    if offset == 24 {
-        return Some(Form::Plain);
+    match u32_at(s, 12) {
+        24 => Some(Form::Plain),
+        28 if 28 <= s.len() => sibling(u32_at(s, 24)),
+        _ => None,
     }
-    if offset != 28 {
-        return None;
-    }
-    if s.len() < 28 {
-        return None;
-    }
-    sibling(u32_at(s, 24))
 }
 
 fn header_at(form: Form, s: &[u8]) -> Header
@@ -146,13 +129,10 @@ fn header_at(form: Form, s: &[u8]) -> Header
 pub fn open(s: &[u8]) -> Option<Header>
     ensures { result ≡ opened s.now }
 {
-    if s.len() < 24 {
-        return None;
-    }
-    if !answers::allowed_rate(u32_at(s, 0)) {
-        return None;
-    }
-    if !answers::allowed_ceiling(u32_at(s, 4)) {
+    if s.len() < 24
+        || !answers::allowed_rate(u32_at(s, 0))
+        || !answers::allowed_ceiling(u32_at(s, 4))
+    {
         return None;
     }
     let form = shape_at(s)?;
@@ -163,13 +143,11 @@ pub fn open(s: &[u8]) -> Option<Header>
 pub fn header_length(s: &[u8]) -> usize
     ensures { result ≡ header_length s.now }
 {
-    if s.len() < 24 {
-        return 24;
+    if 24 <= s.len() && u32_at(s, 12) == 28 {
+        28
+    } else {
+        24
     }
-    if u32_at(s, 12) == 28 {
-        return 28;
-    }
-    24
 }
 
 // Gives the offset of the events, which is the header's length.
@@ -178,8 +156,7 @@ pub fn offset_of(form: Form) -> usize
 {
     match form {
         Form::Plain => 24,
-        Form::Floats => 28,
-        Form::Shorts => 28,
+        Form::Floats | Form::Shorts => 28,
     }
 }
 
@@ -188,10 +165,7 @@ pub fn offset_of(form: Form) -> usize
 fn unused(count: u32, number: u64) -> bool
     ensures { result ≡ both (Recording.unused count) (Recording.unused number) }
 {
-    if count != 0 {
-        return false;
-    }
-    number == 0
+    count == 0 && number == 0
 }
 
 // Tells whether one event may have this many samples.
@@ -205,24 +179,18 @@ fn some_samples(count: u32) -> bool
 fn far_event(count: u32, number: u64) -> Option<Event>
     ensures { result ≡ only_if (both (some_samples count) (Recording.unused number)) (Event.Far count) }
 {
-    if !some_samples(count) {
-        return None;
+    if some_samples(count) && number == 0 {
+        Some(Event::Far { count })
+    } else {
+        None
     }
-    if number != 0 {
-        return None;
-    }
-    Some(Event::Far { count })
 }
 
 // Reads an event of kind 3, 4, 5 or 8, which leaves both fields unused.
 fn plain_event(count: u32, number: u64, event: Event) -> Option<Event>
     ensures { result ≡ only_if (both (Recording.unused count) (Recording.unused number)) event }
 {
-    if unused(count, number) {
-        Some(event)
-    } else {
-        None
-    }
+    unused(count, number).then_some(event)
 }
 
 // Reads an event from its three fields; None is a bad event.
@@ -231,14 +199,10 @@ fn event_of(kind: u32, count: u32, number: u64) -> Option<Event>
 {
     match kind {
         1 => far_event(count, number),
-        2 => if some_samples(count) {
-            Some(Event::Near {
-                count,
-                first: number,
-            })
-        } else {
-            None
-        },
+        2 => some_samples(count).then_some(Event::Near {
+            count,
+            first: number,
+        }),
         3 => plain_event(count, number, Event::Rearm),
         4 => plain_event(count, number, Event::DiscardNear),
         5 => plain_event(count, number, Event::Unconfident),
@@ -259,38 +223,39 @@ fn event_of(kind: u32, count: u32, number: u64) -> Option<Event>
 pub fn event_at(s: &[u8], at: usize) -> Option<Event>
     ensures { result ≡ event_at s.now at }
 {
-    if s.len() < 16 {
-        return None;
-    }
-    if s.len() - 16 < at {
+    if s.len() < 16 || s.len() - 16 < at {
         return None;
     }
     event_of(u32_at(s, at), u32_at(s, at + 4), u64_at(s, at + 8))
+}
+
+// Gives how many bytes a sample has.
+fn width(form: Form) -> usize
+    ensures { (result ≡ Samples.width form) × (0 < result) × (result ≤ 4) }
+{
+    match form {
+        Form::Plain | Form::Floats => 4,
+        Form::Shorts => 2,
+    }
 }
 
 // Gives how many bytes so many samples have.
 pub fn bytes_of(form: Form, samples: u32) -> u64
     ensures { result ≡ bytes_of form samples }
 {
-    match form {
-        Form::Plain => 4 * samples as u64,
-        Form::Floats => 4 * samples as u64,
-        Form::Shorts => 2 * samples as u64,
-    }
+    width(form) as u64 * u64::from(samples)
 }
 
-fn supplied(form: Form, used: u64, count: u32, total: u32, length: u64) -> bool
-    ensures { result ≡ Samples.supplied form (used + count) total length }
+// Gives the samples that are used with this event's, if they are within the total and their bytes are there.
+fn supplied(form: Form, used: u64, count: u32, total: u32, length: u64) -> Option<u64>
+    ensures { result ≡ pick (Samples.supplied form (used + count) total length) (Some (used + count)) None }
 {
-    let most = total as u64;
-    if most < used {
-        return false;
+    let samples = used.saturating_add(u64::from(count));
+    if samples <= u64::from(total) && bytes_of(form, samples as u32) <= length {
+        Some(samples)
+    } else {
+        None
     }
-    let samples = used + count as u64;
-    if most < samples {
-        return false;
-    }
-    bytes_of(form, samples as u32) <= length
 }
 
 // Gives what is used after the event, or None if the totals or the bytes of the two sample inputs do not allow it.
@@ -300,37 +265,19 @@ pub fn admit(header: Header, lengths: Lengths, used: Used, event: Event) -> Opti
     let form = header.form;
     match event {
         Event::Far { count } => {
-            if supplied(form, used.far, count, header.far, lengths.far) {
-                Some(Used {
-                    far: used.far + count as u64,
-                    near: used.near,
-                })
-            } else {
-                None
-            }
+            let far = supplied(form, used.far, count, header.far, lengths.far)?;
+            Some(Used { far, ..used })
         }
         Event::Near { count, first: _ } => {
-            if supplied(form, used.near, count, header.near, lengths.near) {
-                Some(Used {
-                    far: used.far,
-                    near: used.near + count as u64,
-                })
-            } else {
-                None
-            }
+            let near = supplied(form, used.near, count, header.near, lengths.near)?;
+            Some(Used { near, ..used })
         }
-        Event::Rearm => Some(used),
-        Event::DiscardNear => Some(used),
-        Event::Unconfident => Some(used),
-        Event::Interior {
-            alignment: _,
-            delay: _,
-        } => Some(used),
-        Event::Edge {
-            alignment: _,
-            delay: _,
-        } => Some(used),
-        Event::Discontinuity => Some(used),
+        Event::Rearm
+        | Event::DiscardNear
+        | Event::Unconfident
+        | Event::Interior { .. }
+        | Event::Edge { .. }
+        | Event::Discontinuity => Some(used),
     }
 }
 
@@ -338,22 +285,18 @@ pub fn admit(header: Header, lengths: Lengths, used: Used, event: Event) -> Opti
 pub fn all_used(header: Header, used: Used) -> bool
     ensures { result ≡ all_used header used }
 {
-    if used.far < wide(header.far) {
-        return false;
-    }
-    wide(header.near) <= used.near
+    u64::from(header.far) <= used.far && u64::from(header.near) <= used.near
 }
 
 fn part(piece: &[f32], at: usize, count: u32) -> &[f32]
     ensures { result.now ≡ Samples.part piece.now at count }
 {
     let n = count as usize;
-    if at <= piece.len() {
-        if n <= piece.len() - at {
-            return &piece[at..at + n];
-        }
+    if at <= piece.len() && n <= piece.len() - at {
+        &piece[at..at + n]
+    } else {
+        &[]
     }
-    &piece[0..0]
 }
 
 // Gives the samples of an event: a part of the far or of the near piece, of which f and n samples have been used already.
@@ -363,41 +306,24 @@ pub fn samples<'a>(far: &'a [f32], near: &'a [f32], event: Event, f: usize, n: u
     match event {
         Event::Far { count } => part(far, f, count),
         Event::Near { count, first: _ } => part(near, n, count),
-        Event::Rearm => &far[0..0],
-        Event::DiscardNear => &far[0..0],
-        Event::Unconfident => &far[0..0],
-        Event::Interior {
-            alignment: _,
-            delay: _,
-        } => &far[0..0],
-        Event::Edge {
-            alignment: _,
-            delay: _,
-        } => &far[0..0],
-        Event::Discontinuity => &far[0..0],
+        Event::Rearm
+        | Event::DiscardNear
+        | Event::Unconfident
+        | Event::Interior { .. }
+        | Event::Edge { .. }
+        | Event::Discontinuity => &[],
     }
 }
 
-fn decode_floats(s: &[u8], out: &mut [f32]) -> usize
-    ensures { (result ≡ decoded_count Form.Plain s.now out.old) × (out.new ≡ decoded Form.Plain s.now out.old) }
+// Fills out from its start with the samples that `sample` reads one by one, and answers how many.
+fn decode_by<F: Fn(usize) -> f32>(form: Form, s: &[u8], out: &mut [f32], sample: F) -> usize
+    requires readable { (k : ℕ) → k < length s.now / Samples.width form → F.pre sample k }
+    requires reads { (k : ℕ) (x : Float) → F.post sample k x → x ≡ sample_at form s.now k }
+    ensures { (result ≡ decoded_count form s.now out.old) × (out.new ≡ decoded form s.now out.old) }
 {
-    let n = answers::smaller(out.len() as u64, (s.len() / 4) as u64) as usize;
-    let mut i = 0;
-    while i < n {
-        out[i] = floats::bits::float32(u32_at(s, 4 * i));
-        i += 1;
-    }
-    n
-}
-
-fn decode_shorts(s: &[u8], out: &mut [f32]) -> usize
-    ensures { (result ≡ decoded_count Form.Shorts s.now out.old) × (out.new ≡ decoded Form.Shorts s.now out.old) }
-{
-    let n = answers::smaller(out.len() as u64, (s.len() / 2) as u64) as usize;
-    let mut i = 0;
-    while i < n {
-        out[i] = recording_shorts::value(u16_at(s, 2 * i));
-        i += 1;
+    let n = out.len().min(s.len() / width(form));
+    for (k, place) in out[..n].iter_mut().enumerate() {
+        *place = sample(k);
     }
     n
 }
@@ -407,8 +333,12 @@ pub fn decode(form: Form, s: &[u8], out: &mut [f32]) -> usize
     ensures { (result ≡ decoded_count form s.now out.old) × (out.new ≡ decoded form s.now out.old) }
 {
     match form {
-        Form::Plain => decode_floats(s, out),
-        Form::Floats => decode_floats(s, out),
-        Form::Shorts => decode_shorts(s, out),
+        Form::Plain | Form::Floats => decode_by(
+            form,
+            s,
+            out,
+            |k| floats::bits::float32(u32_at(s, 4 * k)),
+        ),
+        Form::Shorts => decode_by(form, s, out, |k| recording_shorts::value(u16_at(s, 2 * k))),
     }
 }

@@ -1,12 +1,13 @@
 -- `recording::far_event` meets its contract.
+use native.Mathlib.Omega.{arith}
 use Rattle.answers.proofs.Cases.{cases}
+use Rattle.answers.specs.Pick.{pick}
 use Rattle.recording.proofs.far_event.Goals as goal
 
-pub returns-then-not-some_samples : goal.returns-then-not-some_samples
-returns-then-not-some_samples c = search (cases, ← c.some_samples.ensures)
+pub returns-then-number-eq0 : goal.returns-then-number-eq0
+unfolding pick
+returns-then-number-eq0 c = grind (arith, cases)
 
-pub returns-then-number-ne0 : goal.returns-then-number-ne0
-returns-then-number-ne0 c = search (cases, ← c.some_samples.ensures)
-
-pub returns : goal.returns
-returns c = search (cases, ← c.some_samples.ensures)
+pub returns-else-some_samples : goal.returns-else-some_samples
+unfolding pick
+returns-else-some_samples c = grind (arith, cases)

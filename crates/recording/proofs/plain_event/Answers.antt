@@ -1,9 +1,7 @@
 -- `recording::plain_event` meets its contract.
-use Rattle.answers.proofs.Cases.{cases}
+use mathlib.Core.Path.{◌∙◌}
+use Rattle.recording.proofs.Laws.{then_some_picks}
 use Rattle.recording.proofs.plain_event.Goals as goal
 
-pub returns-then-unused : goal.returns-then-unused
-returns-then-unused c = search (cases, ← c.unused.ensures)
-
-pub returns-else-unused : goal.returns-else-unused
-returns-else-unused c = search (cases, ← c.unused.ensures)
+pub returns : goal.returns
+returns c = c.then_some.ensures ∙ then_some_picks _ _ ∙ rw c.unused.ensures

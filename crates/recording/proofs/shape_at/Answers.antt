@@ -1,20 +1,22 @@
 -- `recording::shape_at` meets its contract: test by test.
+use native.Mathlib.Omega.{arith}
 use Rattle.answers.proofs.Cases.{cases}
+use Rattle.answers.specs.Pick.{pick}
 use Rattle.recording.specs.Recording.{shape_at}
 use Rattle.recording.proofs.shape_at.Goals as goal
 
-pub returns-then-offset-eq24 : goal.returns-then-offset-eq24
-unfolding shape_at
-returns-then-offset-eq24 c = search (cases, ← c.u32_at-offset.ensures)
+pub returns-in-24 : goal.returns-in-24
+unfolding shape_at pick
+returns-in-24 c = grind (arith, cases)
 
-pub returns-then-offset-ne28 : goal.returns-then-offset-ne28
-unfolding shape_at
-returns-then-offset-ne28 c = search (cases, ← c.u32_at-offset.ensures)
+pub returns-in-28 : goal.returns-in-28
+unfolding shape_at pick
+returns-in-28 c = grind (arith, cases)
 
-pub returns-then-s-lt28 : goal.returns-then-s-lt28
-unfolding shape_at
-returns-then-s-lt28 c = search (cases, ← c.u32_at-offset.ensures)
+pub returns-in_default : goal.returns-in_default
+unfolding shape_at pick
+returns-in_default c = grind (arith, cases)
 
-pub returns : goal.returns
-unfolding shape_at
-returns c = search (cases, ← c.u32_at-offset.ensures, ← c.u32_at.ensures, ← c.sibling.ensures)
+pub returns-in_default-2 : goal.returns-in_default-2
+unfolding shape_at pick
+returns-in_default-2 c = grind (arith, cases)

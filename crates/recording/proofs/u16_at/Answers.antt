@@ -6,4 +6,4 @@ use Rattle.recording.proofs.u16_at.Goals as goal
 pub returns : goal.returns
 returns c =
     let a = c.args in
-    omega (arith, number_two a.s.now a.at c.requires, c.byte.ensures, c.byte-2.ensures)
+    omega (arith, number_two a.s.now a.at c.requires)

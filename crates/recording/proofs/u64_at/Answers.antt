@@ -1,4 +1,4 @@
--- `recording::u64_at` meets its contract: the low half and the high half.
+-- `recording::u64_at` meets its contract: byte by byte.
 use native.Mathlib.Omega.{arith}
 use Rattle.recording.proofs.Laws.{number_eight}
 use Rattle.recording.proofs.u64_at.Goals as goal
