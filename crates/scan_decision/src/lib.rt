@@ -29,10 +29,8 @@ const ONE_FOURTH: f64 = 0.25;
 fn average(sums: &mut [f64])
     ensures { sums.new ≡ table (λ k. mul binary64 (at sums.old k) one_fourth) (length sums.old) }
 {
-    let mut k = 0;
-    while k < sums.len() {
-        sums[k] = sums[k] * ONE_FOURTH;
-        k += 1;
+    for sum in sums.iter_mut() {
+        *sum *= ONE_FOURTH;
     }
 }
 
@@ -48,13 +46,10 @@ fn at_ceiling(g: Geometry, delay: Bins) -> bool
 fn rival_with(g: Geometry, k: u64, best: f64, n: u64, x: f64) -> f64
     ensures { result ≡ rival_with g k best n x }
 {
-    if answers::abs_diff(n, k) <= g.peak_guard {
+    if n.abs_diff(k) <= g.peak_guard {
         return best;
     }
-    if best < x {
-        return x;
-    }
-    best
+    if best < x { x } else { best }
 }
 
 // The best average farther than the peak guard from lag k, if it is above 0, else 0.
@@ -63,10 +58,8 @@ fn rival(g: Geometry, averages: &[f64], k: u64) -> f64
     ensures { result ≡ rival_of g averages.now k }
 {
     let mut best = 0.0;
-    let mut n = 0;
-    while n < averages.len() {
-        best = rival_with(g, k, best, n as u64, averages[n]);
-        n += 1;
+    for (n, &average) in averages.iter().enumerate() {
+        best = rival_with(g, k, best, n as u64, average);
     }
     best
 }
@@ -74,10 +67,7 @@ fn rival(g: Geometry, averages: &[f64], k: u64) -> f64
 fn crowded(rival: f64, peak: f64) -> bool
     ensures { result ≡ crowded_by rival peak }
 {
-    if 0.0 < rival {
-        return peak < scan::COARSE_SIDELOBE_RATIO * rival;
-    }
-    false
+    0.0 < rival && peak < scan::COARSE_SIDELOBE_RATIO * rival
 }
 
 // Weak, ceiling, crowded or region.
@@ -89,7 +79,7 @@ fn decide(g: Geometry, averages: &[f64]) -> Frame
     if peak.value < scan::COARSE_CONFIDENT_CORR {
         return Frame::Weak;
     }
-    let delay = Bins(answers::saturating_sub(g.span, peak.place));
+    let delay = Bins(g.span.saturating_sub(peak.place));
     let beyond = at_ceiling(g, delay);
     let rivalled = crowded(rival(g, averages, peak.place), peak.value);
     if beyond {
@@ -111,15 +101,15 @@ fn found_by(answer: Frame, found: Found) -> Found
     ensures { result ≡ found_by answer found }
 {
     match answer {
-        Frame::Uncovered => found,
-        Frame::Ahead => found,
-        Frame::Quiet => found,
-        Frame::Flat => found,
-        Frame::Banked(_) => found,
-        Frame::Weak => found,
-        Frame::Ceiling => found,
-        Frame::Crowded => found,
         Frame::Region(region) => Found::At(region),
+        Frame::Uncovered
+        | Frame::Ahead
+        | Frame::Quiet
+        | Frame::Flat
+        | Frame::Banked(_)
+        | Frame::Weak
+        | Frame::Ceiling
+        | Frame::Crowded => found,
     }
 }
 
@@ -128,15 +118,15 @@ fn beyond_by(answer: Frame, beyond: bool) -> bool
     ensures { result ≡ beyond_by answer beyond }
 {
     match answer {
-        Frame::Uncovered => beyond,
-        Frame::Ahead => beyond,
-        Frame::Quiet => beyond,
-        Frame::Flat => beyond,
-        Frame::Banked(_) => beyond,
-        Frame::Weak => beyond,
         Frame::Ceiling => true,
-        Frame::Crowded => beyond,
         Frame::Region(_) => false,
+        Frame::Uncovered
+        | Frame::Ahead
+        | Frame::Quiet
+        | Frame::Flat
+        | Frame::Banked(_)
+        | Frame::Crowded
+        | Frame::Weak => beyond,
     }
 }
 
@@ -144,24 +134,14 @@ fn beyond_by(answer: Frame, beyond: bool) -> bool
 fn exhausted_by(frames: u32, found: Found, before: bool) -> bool
     ensures { result ≡ exhausted_by frames found before }
 {
-    if before {
-        return true;
-    }
-    if frames < scan::COARSE_GIVE_UP_FRAMES {
-        return false;
-    }
-    match found {
-        Found::Nothing => true,
-        Found::At(_) => false,
-    }
+    before || frames >= scan::COARSE_GIVE_UP_FRAMES && matches!(found, Found::Nothing)
 }
 
 fn verdict_by(v: Verdict, peak: f64, answer: Frame, banked: u32) -> Verdict
     ensures { result ≡ verdict_by v peak answer banked }
 {
-    let frames = answers::next_count(v.frames);
-    let earlier = v.found;
-    let found = found_by(answer, earlier);
+    let frames = v.frames.saturating_add(1);
+    let found = found_by(answer, v.found);
     Verdict {
         banked,
         frames,

@@ -1,24 +1,17 @@
--- `scan_decision::average` meets its contract. Invariant: the first k sums are averages.
+-- `scan_decision::average` meets its contract. Invariant: the sums so far are averages.
 use mathlib.Core.Path.{refl}
 use Rattle.folds.proofs.Rewriting.{untouched, one_more, rewritten}
 use native.Mathlib.Omega.{arith}
 use Rattle.scan_decision.proofs.average.Invariants.{averaged}
 use Rattle.scan_decision.proofs.average.Goals as goal
 
-pub loop-k-init : goal.loop-k-init
-loop-k-init c = (omega arith, untouched _ _)
+pub loop-sum-init : goal.loop-sum-init
+loop-sum-init c = untouched _ _
 
-pub loop-k-smaller : goal.loop-k-smaller
-loop-k-smaller c = omega (arith, c.loop-k.invariant.1.size)
-
-pub loop-k-preserved : goal.loop-k-preserved
-loop-k-preserved c =
-    let l = c.loop-k in
-    let a = c.args in
-    (omega (arith, l.invariant.1.size), one_more averaged a.sums.now l.k l.sums _ l.invariant.1 (omega arith) refl)
-
-pub shape_of-sums : goal.shape_of-sums
-shape_of-sums c = c.loop-k.invariant.1.size
+pub loop-sum-preserved : goal.loop-sum-preserved
+loop-sum-preserved c =
+    let l = c.loop-sum in
+    one_more averaged c.args.sums.now l.sum-index l.sums _ l.invariant (omega arith) refl
 
 pub returns : goal.returns
-returns c = rewritten averaged c.args.sums.now c.loop-k.k c.loop-k.sums c.loop-k.invariant.1 (omega (arith, c.loop-k.invariant.1.size))
+returns c = rewritten averaged c.args.sums.now c.loop-sum.sum-index c.loop-sum.sums c.loop-sum.invariant (omega arith)

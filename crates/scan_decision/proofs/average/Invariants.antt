@@ -1,5 +1,4 @@
-use Prim.Native.Nat.{ℕ, ◌≤◌, ◌-◌}
-use lib.ListN.{length}
+use Prim.Native.Nat.{ℕ}
 use lib.Ieee.{Float, binary64, mul}
 use Rattle.folds.specs.Rewriting.{Rewritten}
 use Rattle.scan.specs.Scoring.{one_fourth}
@@ -9,8 +8,5 @@ use Rattle.scan_decision.proofs.average.Given as goal
 abbrev pub averaged : ℕ → Float → Float
 averaged k x = mul binary64 x one_fourth
 
-abbrev pub invariant-loop-k : goal.invariant-loop-k
-invariant-loop-k l = (l.k ≤ length l.initial.sums) × Rewritten averaged l.initial.sums l.k l.sums
-
-abbrev pub decreases-loop-k : goal.decreases-loop-k
-decreases-loop-k l = length l.initial.sums - l.k
+abbrev pub invariant-loop-sum : goal.invariant-loop-sum
+invariant-loop-sum l = Rewritten averaged l.initial.sums l.sum-index l.sums

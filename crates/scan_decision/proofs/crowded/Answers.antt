@@ -8,6 +8,6 @@ pub returns-then-rival : goal.returns-then-rival
 unfolding crowded_by of_bits
 returns-then-rival c = search cases
 
-pub returns : goal.returns
+pub returns-else-rival : goal.returns-else-rival
 unfolding crowded_by of_bits
-returns c = search cases
+returns-else-rival c = search cases

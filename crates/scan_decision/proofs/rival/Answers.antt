@@ -9,13 +9,13 @@ use Rattle.scan_decision.proofs.rival.Goals as goal
 
 pub loop-n-init : goal.loop-n-init
 unfolding rival_upto of_bits
-loop-n-init c = (omega arith, refl)
+loop-n-init c = refl
 
 pub loop-n-preserved : goal.loop-n-preserved
 loop-n-preserved c =
     let l = c.loop-n in
     let a = c.args in
-    (omega arith, c.rival_with-best.ensures ∙ rival_more a.g a.averages.now a.k l.n l.best l.invariant.1)
+    c.rival_with-best.ensures ∙ rival_more a.g a.averages.now a.k l.n l.best l.invariant
 
 pub returns : goal.returns
-returns c = let e : c.loop-n.n ≡ lags c.args.g = omega (arith, c.requires) in rw e at c.loop-n.invariant.1
+returns c = let e : c.loop-n.n ≡ lags c.args.g = omega (arith, c.requires) in rw e at c.loop-n.invariant

@@ -8,5 +8,5 @@ returns-then-abs_diff-g c = search (cases, ← c.abs_diff.ensures)
 pub returns-then-best-x : goal.returns-then-best-x
 returns-then-best-x c = search (cases, ← c.abs_diff.ensures)
 
-pub returns : goal.returns
-returns c = search (cases, ← c.abs_diff.ensures)
+pub returns-else-best-x : goal.returns-else-best-x
+returns-else-best-x c = search (cases, ← c.abs_diff.ensures)

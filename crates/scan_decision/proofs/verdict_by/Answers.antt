@@ -4,4 +4,4 @@ use Rattle.scan_decision.proofs.verdict_by.Goals as goal
 
 pub returns : goal.returns
 returns c =
-    rw (c.exhausted_by.ensures, c.beyond_by.ensures, narrow_only c.args.peak c.narrowed.result c.narrowed.ensures, c.found_by-found.ensures, c.next_count-frames.ensures)
+    rw (c.exhausted_by.ensures, c.beyond_by.ensures, narrow_only c.args.peak c.narrowed.result c.narrowed.ensures, c.found_by-found.ensures, c.saturating_add-frames.ensures)
