@@ -42,10 +42,8 @@ fn add_scores(scores: &[f64], sums: &mut [f64])
     requires { length scores.now ≡ length sums.old }
     ensures { sums.new ≡ table (λ k. add binary64 (at sums.old k) (at scores.now k)) (length sums.old) }
 {
-    let mut k = 0;
-    while k < sums.len() {
-        sums[k] = sums[k] + scores[k];
-        k += 1;
+    for (k, sum) in sums.iter_mut().enumerate() {
+        *sum += scores[k];
     }
 }
 
@@ -55,10 +53,7 @@ fn after(scan: Scan, verdict: Verdict, answer: Frame, products: u64) -> Scored
 {
     let near = Near {
         len: 0,
-        sum: scan.near.sum,
-        count: scan.near.count,
-        first: scan.near.first,
-        last: scan.near.last,
+        ..scan.near
     };
     Scored {
         scan: parts::with_near_verdict(scan, near, verdict),
@@ -79,16 +74,12 @@ fn count_frame(
     requires { Fit scan.geometry levels.now window.now prefix.old squares.old scores.old sums.old × Bounds scan.geometry × (scan.verdict.banked < 4) }
     ensures { (e w : List Float) → saw result (lent e levels.now window.now prefix.new squares.new scores.new sums.new) ≡ counted_frame (world scan (lent e levels.now w prefix.old squares.old scores.old sums.old)) levels.now window.now }
 {
-    let g = scan.geometry;
-    let v = scan.verdict;
     let live = scan_lags::write_scores(levels, window, prefix, squares, scores);
-    let products = g.frame * live;
+    let products = scan.geometry.frame * live;
     let peak = folds::search_down(scores);
     add_scores(scores, sums);
-    let ruled = scan_decision::rule(g, v, peak.value, sums);
-    let verdict = ruled.verdict;
-    let answer = ruled.answer;
-    after(scan, verdict, answer, products)
+    let ruled = scan_decision::rule(scan.geometry, scan.verdict, peak.value, sums);
+    after(scan, ruled.verdict, ruled.answer, products)
 }
 
 // Steps 3 to 8, from the near levels and the window.
@@ -139,12 +130,7 @@ fn score(
     if window::ahead(g, next, first) {
         return after(scan, v, Frame::Ahead, 0);
     }
-    window::fill(
-        envelope,
-        next,
-        answers::saturating_sub(first, g.span),
-        window,
-    );
+    window::fill(envelope, next, first.saturating_sub(g.span), window);
     judge(scan, levels, window, prefix, squares, scores, sums)
 }
 

@@ -23,25 +23,13 @@ pub fn all_lengths(
     ensures { result ≡ all_lengths slack g (lent envelope.now levels.now window.now prefix.now squares.now scores.now sums.now) }
 {
     let bins = g.frame + g.span;
-    if envelope.len() as u64 != rules::envelope_len(slack, g) {
-        return false;
-    }
-    if levels.len() as u64 != g.frame {
-        return false;
-    }
-    if window.len() as u64 != bins {
-        return false;
-    }
-    if prefix.len() as u64 != bins + 1 {
-        return false;
-    }
-    if squares.len() as u64 != bins + 1 {
-        return false;
-    }
-    if scores.len() as u64 != g.span + 1 {
-        return false;
-    }
-    sums.len() as u64 == g.span + 1
+    envelope.len() as u64 == rules::envelope_len(slack, g)
+        && levels.len() as u64 == g.frame
+        && window.len() as u64 == bins
+        && prefix.len() as u64 == bins + 1
+        && squares.len() as u64 == bins + 1
+        && scores.len() as u64 == g.span + 1
+        && sums.len() as u64 == g.span + 1
 }
 
 // 4. Nothing is read, or all that is read is finite: near levels, the window's bins, lag sums.
@@ -52,20 +40,13 @@ fn readable(slack: u32, scan: Scan, envelope: &[f32], levels: &[f32], sums: &[f6
     let g = scan.geometry;
     let next = scan.far.next;
     let first = scan.near.first;
-    if window::uncovered(slack, g, next, first) {
+    if window::uncovered(slack, g, next, first) || window::ahead(g, next, first) {
         return true;
     }
-    if window::ahead(g, next, first) {
-        return true;
-    }
-    if !folds::all_finite(levels) {
-        return false;
-    }
-    let start = answers::saturating_sub(first, g.span);
-    if !window::bins_finite(envelope, next, start, g.frame + g.span) {
-        return false;
-    }
-    folds::all_finite64(sums)
+    let start = first.saturating_sub(g.span);
+    folds::all_finite(levels)
+        && window::bins_finite(envelope, next, start, g.frame + g.span)
+        && folds::all_finite64(sums)
 }
 
 pub fn refusal(

@@ -16,10 +16,7 @@ pub fn uncovered(slack: u32, g: Geometry, next: u64, first: u64) -> bool
     requires { Bounds g }
     ensures { result ≡ Scoring.uncovered slack g next first }
 {
-    if first < g.span {
-        return true;
-    }
-    first - g.span < answers::saturating_sub(next, rules::envelope_len(slack, g))
+    first < g.span || first - g.span < next.saturating_sub(rules::envelope_len(slack, g))
 }
 
 // 2. More than frame / 4 of its last bins are not yet written.
@@ -27,7 +24,7 @@ pub fn ahead(g: Geometry, next: u64, first: u64) -> bool
     requires { Bounds g × (first < limit) }
     ensures { result ≡ Scoring.ahead g next first }
 {
-    g.frame / scan::COARSE_TAIL_DEFICIT_DEN < answers::saturating_sub(first + g.frame, next)
+    g.frame / scan::COARSE_TAIL_DEFICIT_DEN < (first + g.frame).saturating_sub(next)
 }
 
 // Bin j, which stands in this slot; an unwritten one reads as 0.
@@ -35,10 +32,7 @@ fn bin_at(envelope: &[f32], next: u64, j: u64, slot: usize) -> f32
     requires { slot < length envelope.now }
     ensures { result ≡ pick (ltb j next) (at envelope.now slot) zero64 }
 {
-    if j < next {
-        return envelope[slot];
-    }
-    0.0
+    if j < next { envelope[slot] } else { 0.0 }
 }
 
 // The slot of the bin after.
@@ -46,10 +40,7 @@ fn slot_after(slot: usize, len: usize) -> usize
     requires { slot < len }
     ensures { (j : ℕ) → slot ≡ j % len → result ≡ (j + 1) % len }
 {
-    if slot + 1 < len {
-        return slot + 1;
-    }
-    0
+    if slot + 1 < len { slot + 1 } else { 0 }
 }
 
 // Whether n bins from `start` on are all finite.
@@ -59,13 +50,11 @@ pub fn bins_finite(envelope: &[f32], next: u64, start: u64, n: u64) -> bool
 {
     let len = envelope.len();
     let mut slot = (start % len as u64) as usize;
-    let mut i = 0;
-    while i < n {
+    for i in 0..n {
         if !floats::is_finite32(bin_at(envelope, next, start + i, slot)) {
             return false;
         }
         slot = slot_after(slot, len);
-        i += 1;
     }
     true
 }
@@ -77,10 +66,8 @@ pub fn fill(envelope: &[f32], next: u64, start: u64, window: &mut [f32])
 {
     let len = envelope.len();
     let mut slot = (start % len as u64) as usize;
-    let mut i = 0;
-    while i < window.len() {
-        window[i] = bin_at(envelope, next, start + i as u64, slot);
+    for (i, bin) in window.iter_mut().enumerate() {
+        *bin = bin_at(envelope, next, start + i as u64, slot);
         slot = slot_after(slot, len);
-        i += 1;
     }
 }

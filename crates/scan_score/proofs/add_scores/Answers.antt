@@ -6,22 +6,16 @@ use Rattle.scan_score.proofs.add_scores.Invariants.{added}
 use Rattle.scan_score.proofs.add_scores.Goals as goal
 
 pub loop-k-init : goal.loop-k-init
-loop-k-init c = (omega arith, untouched _ _)
+loop-k-init c = untouched _ _
 
 pub bounds-scores-k : goal.bounds-scores-k
-bounds-scores-k c = omega (arith, c.loop-k.invariant.1.size)
-
-pub loop-k-smaller : goal.loop-k-smaller
-loop-k-smaller c = omega (arith, c.loop-k.invariant.1.size)
+bounds-scores-k c = omega (arith, c.loop-k.invariant.size)
 
 pub loop-k-preserved : goal.loop-k-preserved
 loop-k-preserved c =
     let l = c.loop-k in
     let a = c.args in
-    (omega (arith, l.invariant.1.size), one_more (added a.scores.now) a.sums.now l.k l.sums _ l.invariant.1 (omega arith) refl)
-
-pub shape_of-sums : goal.shape_of-sums
-shape_of-sums c = c.loop-k.invariant.1.size
+    one_more (added a.scores.now) a.sums.now l.k l.sums _ l.invariant (omega arith) refl
 
 pub returns : goal.returns
-returns c = rewritten (added c.args.scores.now) c.args.sums.now c.loop-k.k c.loop-k.sums c.loop-k.invariant.1 (omega (arith, c.loop-k.invariant.1.size))
+returns c = rewritten (added c.args.scores.now) c.args.sums.now c.loop-k.k c.loop-k.sums c.loop-k.invariant (omega arith)

@@ -1,5 +1,4 @@
-use Prim.Native.Nat.{ℕ, ◌≤◌, ◌-◌}
-use lib.ListN.{length}
+use Prim.Native.Nat.{ℕ}
 use lib.Ieee.{Float, binary64, add}
 use mathlib.Core.List.{List}
 use Rattle.folds.specs.Sums.{at}
@@ -11,7 +10,4 @@ abbrev pub added : List Float → ℕ → Float → Float
 added scores k x = add binary64 x (at scores k)
 
 abbrev pub invariant-loop-k : goal.invariant-loop-k
-invariant-loop-k l = (l.k ≤ length l.initial.sums) × Rewritten (added l.scores) l.initial.sums l.k l.sums
-
-abbrev pub decreases-loop-k : goal.decreases-loop-k
-decreases-loop-k l = length l.initial.sums - l.k
+invariant-loop-k l = Rewritten (added l.scores) l.initial.sums l.k l.sums

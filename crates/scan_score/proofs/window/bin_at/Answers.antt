@@ -6,6 +6,6 @@ use Rattle.scan_score.proofs.window.bin_at.Goals as goal
 pub returns-then-j-next : goal.returns-then-j-next
 returns-then-j-next c = search cases
 
-pub returns : goal.returns
+pub returns-else-j-next : goal.returns-else-j-next
 unfolding of_bits
-returns c = search cases
+returns-else-j-next c = search cases

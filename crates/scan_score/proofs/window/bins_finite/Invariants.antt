@@ -1,4 +1,4 @@
-use Prim.Native.Nat.{◌≤◌, ◌-◌, ◌+◌}
+use Prim.Native.Nat.{◌+◌}
 use mathlib.Core.Path.{◌≡◌}
 use mathlib.Core.Bool.{true}
 use lib.ListN.{length}
@@ -8,7 +8,4 @@ use Rattle.scan_score.specs.Observing.{bins_from}
 use Rattle.scan_score.proofs.window.bins_finite.Given as goal
 
 abbrev pub invariant-loop-i : goal.invariant-loop-i
-invariant-loop-i l = (l.i ≤ l.n) × (l.slot ≡ (l.start + l.i) % length l.envelope) × (all_finite (bins_from l.envelope l.next l.start l.i) ≡ true)
-
-abbrev pub decreases-loop-i : goal.decreases-loop-i
-decreases-loop-i l = l.n - l.i
+invariant-loop-i l = (l.slot ≡ (l.start + l.i) % length l.envelope) × (all_finite (bins_from l.envelope l.next l.start l.i) ≡ true)

@@ -16,28 +16,28 @@ pub loop-i-init : goal.loop-i-init
 unfolding table
 loop-i-init c =
     let z : c.args.start + 0 ≡ c.args.start = omega arith in
-    (omega arith, refl, rw z, refl)
+    (refl, rw z, refl)
 
 pub overflow_add-start : goal.overflow_add-start
-overflow_add-start c = omega (arith, c.requires.1, c.loop-i.invariant.1)
+overflow_add-start c = omega (arith, c.requires.1, c.loop-i.invariant.0)
 
 pub bin_at-requires : goal.bin_at-requires
-bin_at-requires c = in_slot _ _ _ c.loop-i.invariant.2 c.requires.0
+bin_at-requires c = in_slot _ _ _ c.loop-i.invariant.1 c.requires.0
 
 pub slot_after-slot-requires : goal.slot_after-slot-requires
-slot_after-slot-requires c = in_slot _ _ _ c.loop-i.invariant.2 c.requires.0
+slot_after-slot-requires c = in_slot _ _ _ c.loop-i.invariant.1 c.requires.0
 
 pub loop-i-preserved : goal.loop-i-preserved
 loop-i-preserved c =
     let a = c.args in
     let l = c.loop-i in
     let z : a.start + (l.i + 1) ≡ a.start + l.i + 1 = omega arith in
-    let is = c.bin_at.ensures ∙ ap (λ (s : ℕ). pick (ltb (a.start + l.i) a.next) (at a.envelope.now s) zero64) l.invariant.2 in
-    (omega arith, simp length-set l.invariant.1, rw z (c.slot_after-slot.ensures (a.start + l.i) l.invariant.2), grow (λ (j : ℕ). bin_in a.envelope.now a.next (a.start + j)) l.window l.i _ (omega arith) l.invariant.3 is)
+    let is = c.bin_at.ensures ∙ ap (λ (s : ℕ). pick (ltb (a.start + l.i) a.next) (at a.envelope.now s) zero64) l.invariant.1 in
+    (simp length-set l.invariant.0, rw z (c.slot_after-slot.ensures (a.start + l.i) l.invariant.1), grow (λ (j : ℕ). bin_in a.envelope.now a.next (a.start + j)) l.window l.i _ (omega arith) l.invariant.2 is)
 
 pub returns : goal.returns
 returns c =
     let a = c.args in
     let l = c.loop-i in
     let e : l.i ≡ length a.window.now = omega arith in
-    whole (λ (j : ℕ). bin_in a.envelope.now a.next (a.start + j)) l.window (length a.window.now) l.invariant.1 (rw e at l.invariant.3)
+    whole (λ (j : ℕ). bin_in a.envelope.now a.next (a.start + j)) l.window (length a.window.now) l.invariant.0 (rw e at l.invariant.2)

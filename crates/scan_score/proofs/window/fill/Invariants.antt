@@ -1,4 +1,4 @@
-use Prim.Native.Nat.{◌≤◌, ◌-◌, ◌+◌}
+use Prim.Native.Nat.{◌+◌}
 use mathlib.Core.Path.{◌≡◌}
 use lib.ListN.{length, take}
 use Prim.Native.Nat.{◌%◌}
@@ -6,7 +6,4 @@ use Rattle.scan_score.specs.Observing.{bins_from}
 use Rattle.scan_score.proofs.window.fill.Given as goal
 
 abbrev pub invariant-loop-i : goal.invariant-loop-i
-invariant-loop-i l = (l.i ≤ length l.initial.window) × (length l.window ≡ length l.initial.window) × (l.slot ≡ (l.start + l.i) % length l.envelope) × (take l.i l.window ≡ bins_from l.envelope l.next l.start l.i)
-
-abbrev pub decreases-loop-i : goal.decreases-loop-i
-decreases-loop-i l = length l.initial.window - l.i
+invariant-loop-i l = (length l.window ≡ length l.initial.window) × (l.slot ≡ (l.start + l.i) % length l.envelope) × (take l.i l.window ≡ bins_from l.envelope l.next l.start l.i)

@@ -7,5 +7,5 @@ use Rattle.scan_score.proofs.window.slot_after.Goals as goal
 pub returns-then-slot-len : goal.returns-then-slot-len
 returns-then-slot-len c = λ j e. further c.args.slot c.args.len j (search rules) e
 
-pub returns : goal.returns
-returns c = λ j e. wraps c.args.slot c.args.len j (omega arith) e
+pub returns-else-slot-len : goal.returns-else-slot-len
+returns-else-slot-len c = λ j e. wraps c.args.slot c.args.len j (omega arith) e

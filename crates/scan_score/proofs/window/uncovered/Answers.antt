@@ -7,6 +7,6 @@ pub returns-then-first-g : goal.returns-then-first-g
 unfolding uncovered
 returns-then-first-g c = search cases
 
-pub returns : goal.returns
+pub returns-else-first-g : goal.returns-else-first-g
 unfolding uncovered
-returns c = search (cases, c.saturating_sub.ensures, c.envelope_len.ensures)
+returns-else-first-g c = search (cases, c.saturating_sub.ensures, c.envelope_len.ensures)
