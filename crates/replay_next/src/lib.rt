@@ -1,11 +1,11 @@
 // The next line of a log, from the bytes at hand of the three inputs: a call that does no input or output. replay_stream defines what it answers.
 #![tactic(auto)]
 
-ghost use Rattle.std.specs.Prelude.{◌≡◌, ◌+◌, ◌^◌, ◌<◌, length};
+ghost use Rattle.std.specs.Prelude.{◌≡◌, length};
 ghost use Rattle.scan_score.specs.Observing.{lent};
 ghost use Rattle.replay_near.specs.Telling.{Holds};
 ghost use Rattle.replay_stream.specs.Stream;
-ghost use Rattle.replay_stream.specs.Stream.{bytes_used, next_line};
+ghost use Rattle.replay_stream.specs.Stream.{next_line};
 ghost use Rattle.replay_stream.specs.Giving.{hand_of, gives};
 
 use recording::Header;
@@ -15,23 +15,7 @@ use replay_stream::{Answer, Bytes, Ended, Place, Turned};
 fn silent(answer: Answer) -> bool
     ensures { result ≡ Stream.silent answer }
 {
-    match answer {
-        Answer::Says(_) => false,
-        Answer::Silent => true,
-        Answer::Wants(_) => false,
-        Answer::Over => false,
-    }
-}
-
-fn sum(a: Bytes, b: Bytes) -> Bytes
-    requires { (a.events + b.events < 2 ^ 64) × (a.far + b.far < 2 ^ 64) × (a.near + b.near < 2 ^ 64) }
-    ensures { result ≡ bytes_used (a.events + b.events) (a.far + b.far) (a.near + b.near) }
-{
-    Bytes {
-        events: a.events + b.events,
-        far: a.far + b.far,
-        near: a.near + b.near,
-    }
+    matches!(answer, Answer::Silent)
 }
 
 // Turns, until one has something to say.
@@ -61,15 +45,12 @@ fn turns(
         near: 0,
     };
     loop {
-        let e = used.events;
-        let f = used.far;
-        let n = used.near;
         let t = replay_runs::advance(
             header,
             at,
-            &events[e..],
-            &far[f..],
-            &near[n..],
+            &events[used.events..],
+            &far[used.far..],
+            &near[used.near..],
             ended,
             samples,
             envelope,
@@ -80,16 +61,10 @@ fn turns(
             scores,
             lag_sums,
         );
-        let more = t.used;
-        used = sum(used, more);
+        used = used.plus(t.used);
         at = t.place;
-        let answer = t.answer;
-        if !silent(answer) {
-            return Turned {
-                place: at,
-                answer,
-                used,
-            };
+        if !silent(t.answer) {
+            return Turned { used, ..t };
         }
     }
 }
@@ -199,13 +174,11 @@ pub fn next(
 ) -> Turned
     ensures { gives result (lent envelope.new levels.new window.new prefix.new squares.new scores.new lag_sums.new) ≡ next_line header place (lent envelope.old levels.old window.old prefix.old squares.old scores.old lag_sums.old) (hand_of events.now far.now near.now ended) }
 {
-    if far.len() == 0 {
-        if near.len() == 0 {
-            return without_samples(
-                header, place, events, far, near, ended, envelope, levels, window, prefix, squares,
-                scores, lag_sums,
-            );
-        }
+    if far.is_empty() && near.is_empty() {
+        return without_samples(
+            header, place, events, far, near, ended, envelope, levels, window, prefix, squares,
+            scores, lag_sums,
+        );
     }
     with_samples(
         header, place, events, far, near, ended, envelope, levels, window, prefix, squares, scores,

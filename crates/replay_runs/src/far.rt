@@ -18,24 +18,22 @@ fn heard(form: Form, at: Silence, far: Far, count: u32) -> Silence
     requires { (at.number < 2 ^ 32 - 1) × (at.bytes.events + 16 < 2 ^ 64) × (at.bytes.far + bytes_of form count < 2 ^ 64) × (at.used.far + count < 2 ^ 64) }
     ensures { result ≡ heard_on at far count (bytes_of form count) }
 {
-    let near = at.near;
-    let used = Used {
-        far: at.used.far + count as u64,
-        near: at.used.near,
-    };
     Silence {
         number: at.number + 1,
         index: 0,
         left: 0,
         far,
-        near,
-        used,
+        used: Used {
+            far: at.used.far + count as u64,
+            ..at.used
+        },
         bytes: Bytes {
             events: at.bytes.events + 16,
             far: at.bytes.far + recording::bytes_of(form, count) as usize,
-            near: at.bytes.near,
+            ..at.bytes
         },
         going: floats::is_finite(far.sum),
+        ..at
     }
 }
 
@@ -86,7 +84,6 @@ pub fn event(
     let s = supplies::of(form, at.used.far, header.far, count, &far[f..], true);
     match s {
         Supply::AtHand => hear(header, session, at, count, far, samples, envelope),
-        Supply::Awaited => crate::halt(at),
-        Supply::Lacking => crate::halt(at),
+        Supply::Awaited | Supply::Lacking => crate::halt(at),
     }
 }

@@ -35,20 +35,7 @@ pub struct Silence {
 pub fn halt(at: Silence) -> Silence
     ensures { result ≡ halted at }
 {
-    let far = at.far;
-    let near = at.near;
-    let used = at.used;
-    let bytes = at.bytes;
-    Silence {
-        number: at.number,
-        index: at.index,
-        left: at.left,
-        far,
-        near,
-        used,
-        bytes,
-        going: false,
-    }
+    Silence { going: false, ..at }
 }
 
 // One event of the bytes at hand. The loop ends before one that is bad, of another kind, not admitted or short of bytes, and inside a near event that logs a line.
@@ -69,9 +56,7 @@ fn event(
     if at.number >= header.events {
         return halt(at);
     }
-    let e = at.bytes.events;
-    let entry = recording::event_at(events, e);
-    match entry {
+    match recording::event_at(events, at.bytes.events) {
         None => halt(at),
         Some(event) => play(
             header, session, at, event, far, near, samples, envelope, levels,
@@ -98,18 +83,12 @@ fn play(
         Event::Near { count, first } => near::event(
             header, session, at, count, first, near, samples, levels,
         ),
-        Event::Rearm => halt(at),
-        Event::DiscardNear => halt(at),
-        Event::Unconfident => halt(at),
-        Event::Interior {
-            alignment: _,
-            delay: _,
-        } => halt(at),
-        Event::Edge {
-            alignment: _,
-            delay: _,
-        } => halt(at),
-        Event::Discontinuity => halt(at),
+        Event::Rearm
+        | Event::DiscardNear
+        | Event::Unconfident
+        | Event::Interior { .. }
+        | Event::Edge { .. }
+        | Event::Discontinuity => halt(at),
     }
 }
 
@@ -163,15 +142,13 @@ fn through(
         header, session, first, events, far, near, samples, envelope, levels,
     );
     let here = start::behind(session, last);
-    let e = last.bytes.events;
-    let f = last.bytes.far;
-    let n = last.bytes.near;
+    let used = last.bytes;
     let t = replay_turn::turn(
         header,
         here,
-        &events[e..],
-        &far[f..],
-        &near[n..],
+        &events[used.events..],
+        &far[used.far..],
+        &near[used.near..],
         ended,
         samples,
         envelope,
@@ -182,7 +159,6 @@ fn through(
         scores,
         lag_sums,
     );
-    let used = last.bytes;
     start::on_top(used, t)
 }
 

@@ -21,10 +21,7 @@ use scan_calls::rules;
 fn goes_on(left: usize, sum: f64) -> bool
     ensures { result ≡ both (eqb left 0) (finite sum) }
 {
-    if left != 0 {
-        return false;
-    }
-    floats::is_finite(sum)
+    left == 0 && floats::is_finite(sum)
 }
 
 // So many of the event's samples passed.
@@ -32,25 +29,23 @@ fn took(form: Form, at: Silence, count: u32, first: u64, near: Near, passed: usi
     requires { (at.number < 2 ^ 32 - 1) × (at.bytes.events + 16 < 2 ^ 64) × (at.bytes.near + bytes_of form passed < 2 ^ 64) × (at.used.near + count < 2 ^ 64) × (passed ≤ count) × (count ≤ 4096) }
     ensures { result ≡ took_on form at count first near passed }
 {
-    let far = at.far;
     let left = count as usize - passed;
-    let used = Used {
-        far: at.used.far,
-        near: at.used.near + count as u64,
-    };
     Silence {
         number: at.number + 1,
         index: replay::events::later(first, passed),
         left,
-        far,
         near,
-        used,
+        used: Used {
+            near: at.used.near + count as u64,
+            ..at.used
+        },
         bytes: Bytes {
             events: at.bytes.events + 16,
-            far: at.bytes.far,
             near: at.bytes.near + recording::bytes_of(form, passed as u32) as usize,
+            ..at.bytes
         },
         going: goes_on(left, near.sum),
+        ..at
     }
 }
 
@@ -102,7 +97,6 @@ pub fn event(
     let s = supplies::of(form, at.used.near, header.near, count, &near[i..], true);
     match s {
         Supply::AtHand => take(header, session, at, count, first, near, samples, levels),
-        Supply::Awaited => crate::halt(at),
-        Supply::Lacking => crate::halt(at),
+        Supply::Awaited | Supply::Lacking => crate::halt(at),
     }
 }

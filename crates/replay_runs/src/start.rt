@@ -16,56 +16,32 @@ fn judged(scan: Scan, envelope: usize, levels: usize) -> bool
     ensures { result ≡ true → (envelope ≡ envelope_len full_slack (due scan)) × (levels ≡ near_len (due scan)) × (first_refusals scan true ≡ 0) × (full scan.geometry scan.near ≡ false) }
 {
     let due = rules::geometry_of(scan.geometry.rate, scan.geometry.ceiling);
-    if envelope as u64 != rules::envelope_len(scan_calls::SLACK, due) {
-        return false;
-    }
-    if levels as u64 != due.frame {
-        return false;
-    }
-    let n = rules::first_refusals(scan, due, true);
-    if n != 0 {
-        return false;
-    }
-    if scan.near.len == scan.geometry.frame {
-        return false;
-    }
-    true
+    envelope as u64 == rules::envelope_len(scan_calls::SLACK, due)
+        && levels as u64 == due.frame
+        && rules::first_refusals(scan, due, true) == 0
+        && scan.near.len != scan.geometry.frame
 }
 
 // Without room for samples, as in a recording of cycles alone, no event is tried.
 pub fn may_go(place: Place, samples: usize, envelope: usize, levels: usize) -> bool
     ensures { result ≡ true → MayGo place envelope levels }
 {
-    if samples == 0 {
-        return false;
-    }
-    let stage = place.stage;
-    let scan = place.session.scan;
-    match stage {
-        Stage::Opening => false,
-        Stage::Events => judged(scan, envelope, levels),
-        Stage::Midway {
-            event: _,
-            index: _,
-            left: _,
-        } => false,
-        Stage::Closed => false,
-    }
+    samples != 0
+        && matches!(place.stage, Stage::Events)
+        && judged(place.session.scan, envelope, levels)
 }
 
 pub fn before(place: Place) -> Silence
     ensures { result ≡ before_all place }
 {
-    let far = place.session.scan.far;
-    let near = place.session.scan.near;
-    let used = place.session.used;
+    let session = place.session;
     Silence {
         number: place.number,
         index: 0,
         left: 0,
-        far,
-        near,
-        used,
+        far: session.scan.far,
+        near: session.scan.near,
+        used: session.used,
         bytes: Bytes {
             events: 0,
             far: 0,
@@ -90,27 +66,17 @@ pub fn behind(session: Session, at: Silence) -> Place
     requires { (at.left ≤ 4096) × (0 < at.left → 0 < at.number) }
     ensures { result ≡ place_at session at }
 {
-    let geometry = session.scan.geometry;
-    let verdict = session.scan.verdict;
-    let far = at.far;
-    let near = at.near;
-    let tracker = session.tracker;
-    let used = at.used;
-    let stage = stage_of(at.number, at.index, at.left);
     Place {
         number: at.number,
-        stage,
+        stage: stage_of(at.number, at.index, at.left),
         session: Session {
             scan: Scan {
-                geometry,
-                far,
-                near,
-                verdict,
+                far: at.far,
+                near: at.near,
+                ..session.scan
             },
-            tracker,
-            frames: session.frames,
-            cycles: session.cycles,
-            used,
+            used: at.used,
+            ..session
         },
     }
 }
@@ -119,15 +85,8 @@ pub fn on_top(used: Bytes, t: Turned) -> Turned
     requires { (used.events + t.used.events < 2 ^ 64) × (used.far + t.used.far < 2 ^ 64) × (used.near + t.used.near < 2 ^ 64) }
     ensures { result ≡ record { place = t.place; answer = t.answer; used = bytes_used (used.events + t.used.events) (used.far + t.used.far) (used.near + t.used.near) } }
 {
-    let place = t.place;
-    let answer = t.answer;
     Turned {
-        place,
-        answer,
-        used: Bytes {
-            events: used.events + t.used.events,
-            far: used.far + t.used.far,
-            near: used.near + t.used.near,
-        },
+        used: used.plus(t.used),
+        ..t
     }
 }

@@ -44,8 +44,8 @@ advance-t-requires c =
     let x = c.loop-header.samples in
     (still_holds a.far.now _ x a.samples.now same c.requires.0, still_holds a.near.now _ x a.samples.now same c.requires.1)
 
-pub sum-used-requires : goal.sum-used-requires
-sum-used-requires c =
+pub plus-used-requires : goal.plus-used-requires
+plus-used-requires c =
     let z = sum_within c.args.header c.args.events.now c.args.far.now c.args.near.now c.args.ended c.loop-header.at (lent c.loop-header.envelope c.loop-header.levels c.loop-header.window c.loop-header.prefix c.loop-header.squares c.loop-header.scores c.loop-header.lag_sums) c.loop-header.used c.loop-header.invariant.1 c.advance-t.result _ c.advance-t.ensures in (omega (arith, z.events, c.well_formed), omega (arith, z.far, c.well_formed), omega (arith, z.near, c.well_formed))
 
 pub shape_of-samples-then-not-silent : goal.shape_of-samples-then-not-silent
@@ -82,7 +82,7 @@ shape_of-lag_sums-then-not-silent c =
 
 pub returns-then-not-silent : goal.returns-then-not-silent
 returns-then-not-silent c =
-    rw c.sum-used.ensures (ends c.args.header c.args.events.now c.args.far.now c.args.near.now c.args.ended c.loop-header.at (lent c.loop-header.envelope c.loop-header.levels c.loop-header.window c.loop-header.prefix c.loop-header.squares c.loop-header.scores c.loop-header.lag_sums) c.loop-header.used c.loop-header.invariant.1 c.advance-t.result _ c.advance-t.ensures _ c.loop-header.invariant.0 (sym c.silent.ensures ∙ c.if-not-silent.true))
+    rw c.plus-used.ensures (ends c.args.header c.args.events.now c.args.far.now c.args.near.now c.args.ended c.loop-header.at (lent c.loop-header.envelope c.loop-header.levels c.loop-header.window c.loop-header.prefix c.loop-header.squares c.loop-header.scores c.loop-header.lag_sums) c.loop-header.used c.loop-header.invariant.1 c.advance-t.result _ c.advance-t.ensures _ c.loop-header.invariant.0 (sym c.silent.ensures ∙ c.if-not-silent.true))
 
 pub loop-header-smaller : goal.loop-header-smaller
 loop-header-smaller c =
@@ -90,4 +90,4 @@ loop-header-smaller c =
 
 pub loop-header-preserved : goal.loop-header-preserved
 loop-header-preserved c =
-    (rw c.sum-used.ensures (again c.args.header c.args.events.now c.args.far.now c.args.near.now c.args.ended c.loop-header.at (lent c.loop-header.envelope c.loop-header.levels c.loop-header.window c.loop-header.prefix c.loop-header.squares c.loop-header.scores c.loop-header.lag_sums) c.loop-header.used c.loop-header.invariant.1 c.advance-t.result _ c.advance-t.ensures _ c.loop-header.invariant.0 (sym c.silent.ensures ∙ c.if-not-silent.false)), rw c.sum-used.ensures (sum_within c.args.header c.args.events.now c.args.far.now c.args.near.now c.args.ended c.loop-header.at (lent c.loop-header.envelope c.loop-header.levels c.loop-header.window c.loop-header.prefix c.loop-header.squares c.loop-header.scores c.loop-header.lag_sums) c.loop-header.used c.loop-header.invariant.1 c.advance-t.result _ c.advance-t.ensures), record { samples = c.advance-t.auto.samples ∙ c.loop-header.invariant.2.samples; envelope = c.advance-t.auto.envelope ∙ c.loop-header.invariant.2.envelope; levels = c.advance-t.auto.levels ∙ c.loop-header.invariant.2.levels; window = c.advance-t.auto.window ∙ c.loop-header.invariant.2.window; prefix = c.advance-t.auto.prefix ∙ c.loop-header.invariant.2.prefix; squares = c.advance-t.auto.squares ∙ c.loop-header.invariant.2.squares; scores = c.advance-t.auto.scores ∙ c.loop-header.invariant.2.scores; sums = c.advance-t.auto.lag_sums ∙ c.loop-header.invariant.2.sums })
+    (rw c.plus-used.ensures (again c.args.header c.args.events.now c.args.far.now c.args.near.now c.args.ended c.loop-header.at (lent c.loop-header.envelope c.loop-header.levels c.loop-header.window c.loop-header.prefix c.loop-header.squares c.loop-header.scores c.loop-header.lag_sums) c.loop-header.used c.loop-header.invariant.1 c.advance-t.result _ c.advance-t.ensures _ c.loop-header.invariant.0 (sym c.silent.ensures ∙ c.if-not-silent.false)), rw c.plus-used.ensures (sum_within c.args.header c.args.events.now c.args.far.now c.args.near.now c.args.ended c.loop-header.at (lent c.loop-header.envelope c.loop-header.levels c.loop-header.window c.loop-header.prefix c.loop-header.squares c.loop-header.scores c.loop-header.lag_sums) c.loop-header.used c.loop-header.invariant.1 c.advance-t.result _ c.advance-t.ensures), record { samples = c.advance-t.auto.samples ∙ c.loop-header.invariant.2.samples; envelope = c.advance-t.auto.envelope ∙ c.loop-header.invariant.2.envelope; levels = c.advance-t.auto.levels ∙ c.loop-header.invariant.2.levels; window = c.advance-t.auto.window ∙ c.loop-header.invariant.2.window; prefix = c.advance-t.auto.prefix ∙ c.loop-header.invariant.2.prefix; squares = c.advance-t.auto.squares ∙ c.loop-header.invariant.2.squares; scores = c.advance-t.auto.scores ∙ c.loop-header.invariant.2.scores; sums = c.advance-t.auto.lag_sums ∙ c.loop-header.invariant.2.sums })

@@ -13,7 +13,7 @@ returns-then-at-header c =
 pub play-requires : goal.play-requires
 play-requires c =
     let a = c.args in
-    let q = sym c.event_at-entry.ensures ∙ c.in-Some.is in
+    let q = sym c.event_at.ensures ∙ c.in-Some.is in
     (c.requires.0, omega (arith, c.if-at-header.false, c.well_formed), omega (arith, entry_there a.events.now a.at.bytes.events _ c.requires.1.events q, c.well_formed), c.requires.1.far, c.requires.1.near, good_few _ _ _ q, c.requires.2, c.requires.3, c.requires.4, c.requires.5)
 
 pub returns-in-None : goal.returns-in-None
@@ -24,4 +24,4 @@ returns-in-None c =
 pub returns-in-Some : goal.returns-in-Some
 returns-in-Some c =
     let a = c.args in
-    c.play.ensures a.events.now (record { some = omega (arith, c.if-at-header.false); entry = sym c.event_at-entry.ensures ∙ c.in-Some.is; inside = c.requires.1 })
+    c.play.ensures a.events.now (record { some = omega (arith, c.if-at-header.false); entry = sym c.event_at.ensures ∙ c.in-Some.is; inside = c.requires.1 })

@@ -26,28 +26,3 @@ pub returns-in-Rearm : goal.returns-in-Rearm
 returns-in-Rearm c =
     let a = c.args in
     λ ev bef. rw c.halt.ensures (halts a.header a.session ev a.far.now a.near.now a.at a.envelope.now a.levels.now bef.inside c.requires.0)
-
-pub returns-in-DiscardNear : goal.returns-in-DiscardNear
-returns-in-DiscardNear c =
-    let a = c.args in
-    λ ev bef. rw c.halt-in-DiscardNear.ensures (halts a.header a.session ev a.far.now a.near.now a.at a.envelope.now a.levels.now bef.inside c.requires.0)
-
-pub returns-in-Unconfident : goal.returns-in-Unconfident
-returns-in-Unconfident c =
-    let a = c.args in
-    λ ev bef. rw c.halt-in-Unconfident.ensures (halts a.header a.session ev a.far.now a.near.now a.at a.envelope.now a.levels.now bef.inside c.requires.0)
-
-pub returns-in-Interior : goal.returns-in-Interior
-returns-in-Interior c =
-    let a = c.args in
-    λ ev bef. rw c.halt-in-Interior.ensures (halts a.header a.session ev a.far.now a.near.now a.at a.envelope.now a.levels.now bef.inside c.requires.0)
-
-pub returns-in-Edge : goal.returns-in-Edge
-returns-in-Edge c =
-    let a = c.args in
-    λ ev bef. rw c.halt-in-Edge.ensures (halts a.header a.session ev a.far.now a.near.now a.at a.envelope.now a.levels.now bef.inside c.requires.0)
-
-pub returns-in-Discontinuity : goal.returns-in-Discontinuity
-returns-in-Discontinuity c =
-    let a = c.args in
-    λ ev bef. rw c.halt-in-Discontinuity.ensures (halts a.header a.session ev a.far.now a.near.now a.at a.envelope.now a.levels.now bef.inside c.requires.0)

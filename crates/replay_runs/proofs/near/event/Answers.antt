@@ -20,8 +20,3 @@ pub returns-in-Awaited : goal.returns-in-Awaited
 returns-in-Awaited c =
     let a = c.args in
     λ ev fr e bef. rw c.halt.ensures (halts a.header a.session ev fr a.near.now a.at e a.levels.now bef.inside c.requires.0)
-
-pub returns-in-Lacking : goal.returns-in-Lacking
-returns-in-Lacking c =
-    let a = c.args in
-    λ ev fr e bef. rw c.halt-in-Lacking.ensures (halts a.header a.session ev fr a.near.now a.at e a.levels.now bef.inside c.requires.0)
