@@ -1,4 +1,5 @@
 -- What an answer tells is the whole answer: two answers that tell the same are the same. A ratio is told by its pattern, which says all of a binary64.
+use Rattle.std.specs.Prelude.{None, Some}
 use Prim.Native.Nat.{ℕ}
 use mathlib.Core.Path.{◌≡◌, refl, sym, ap, ◌∙◌}
 use lib.Dec.{T}
@@ -8,7 +9,6 @@ use lib.Ieee.Bits.{of_bits-to_bits}
 use Rattle.units.specs.Units.{samples}
 use Rattle.fine.specs.State.{positions}
 use Rattle.fine.specs.declared.Positions.{Positions}
-use Rattle.fine.specs.declared.Position.TheVariants.{Nothing, At}
 use Rattle.fine.specs.declared.SamplesReport.{SamplesReport}
 use Rattle.fine.specs.declared.SamplesReport.TheVariants as samplesReport
 use Rattle.fine.specs.declared.RangeReport.{RangeReport}
@@ -56,14 +56,14 @@ same_positions p q first last = ap (λ (k : ℕ). positions k p.last) first ∙ 
 
 pub position_told_lem : (x y : PositionReport) → position_told x ≡ position_told y → x ≡ y
 position_told_lem (position.Refused m) (position.Refused n) e = cc
-position_told_lem (position.Refused m) (position.Is Nothing) e = cc
-position_told_lem (position.Refused m) (position.Is (At k)) e = cc
-position_told_lem (position.Is Nothing) (position.Refused n) e = cc
-position_told_lem (position.Is Nothing) (position.Is Nothing) e = refl
-position_told_lem (position.Is Nothing) (position.Is (At k)) e = cc
-position_told_lem (position.Is (At j)) (position.Refused n) e = cc
-position_told_lem (position.Is (At j)) (position.Is Nothing) e = cc
-position_told_lem (position.Is (At j)) (position.Is (At k)) e =
+position_told_lem (position.Refused m) (position.Is None) e = cc
+position_told_lem (position.Refused m) (position.Is (Some k)) e = cc
+position_told_lem (position.Is None) (position.Refused n) e = cc
+position_told_lem (position.Is None) (position.Is None) e = refl
+position_told_lem (position.Is None) (position.Is (Some k)) e = cc
+position_told_lem (position.Is (Some j)) (position.Refused n) e = cc
+position_told_lem (position.Is (Some j)) (position.Is None) e = cc
+position_told_lem (position.Is (Some j)) (position.Is (Some k)) e =
     let first : j.first ≡ k.first = cc in
     let last : j.last ≡ k.last = cc in
-    ap (λ (p : Positions). position.Is (At p)) (same_positions j k first last)
+    ap (λ (p : Positions). position.Is (Some p)) (same_positions j k first last)

@@ -1,4 +1,5 @@
 -- The laws that a reader wants of the state, and what the proofs of its functions cite.
+pub mod Equal
 pub mod Powers
 pub mod Laws
 pub mod Numbers

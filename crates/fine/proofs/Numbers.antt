@@ -1,4 +1,5 @@
 -- A call is refused exactly where its list of refusals says so, and with that number.
+use Rattle.std.specs.Prelude.{Option, None, Some}
 use Prim.Native.Nat.{ℕ}
 use mathlib.Core.Path.{◌≡◌, refl, sym}
 use lib.Dec.{eqb}
@@ -10,10 +11,9 @@ use Rattle.answers.specs.Told.{change_told, count_told}
 use Rattle.units.specs.declared.Samples.{Samples}
 use Rattle.fine.specs.Calls.{changed, making_refusal, made, state_refusal, restarted, relocate_refusal, relocated, was_reset, samples_reported, search_range, last_scan_ratio, last_scan_peak_at}
 use Rattle.fine.specs.Told.{samples_told, range_told, ratio_told, place_told, position_told, refusal_told}
+use Rattle.fine.specs.declared.Positions.{Positions}
 use Rattle.fine.specs.declared.Changed.{Changed}
 use Rattle.fine.specs.declared.Fine.{Fine}
-use Rattle.fine.specs.declared.Position.{Position}
-use Rattle.fine.specs.declared.Position.TheVariants.{Nothing, At}
 
 -- of a choice between a refusal that bears its number and an answer that bears none
 pub told : {A : Type 0} (number : A → ℕ) (n : ℕ) (refused done : A) → number refused ≡ n → number done ≡ none → number (if_refused n refused done) ≡ n
@@ -56,9 +56,9 @@ pub ratio_number : (s : Fine) → refusal_told (ratio_told (last_scan_ratio s)) 
 unfolding last_scan_ratio
 ratio_number s = told (λ a. refusal_told (ratio_told a)) (state_refusal s) _ _ refl refl
 
-place_accepts : (k : Position) → refusal_told (place_told k) ≡ none
-place_accepts Nothing = refl
-place_accepts (At k) = refl
+place_accepts : (k : Option Positions) → refusal_told (place_told k) ≡ none
+place_accepts None = refl
+place_accepts (Some k) = refl
 
 pub position_number : (s : Fine) → refusal_told (position_told (last_scan_peak_at s)) ≡ state_refusal s
 unfolding last_scan_peak_at

@@ -1,42 +1,16 @@
 -- Doubling from 1 on gives the least power of two not below n.
-use Prim.Native.Nat.{ℕ, zero, suc, ◌+◌, ◌-◌, ◌*◌, ◌^◌, ◌≤◌, ◌<◌}
-use mathlib.Core.Path.{◌≡◌, refl, sym, ◌∙◌, subst}
+use Prim.Native.Nat.{ℕ, zero, suc, ◌+◌, ◌*◌, ◌/◌, ◌^◌, ◌≤◌, ◌<◌, min, max}
+use mathlib.Core.Path.{◌≡◌, refl, sym, ap, ◌∙◌, subst}
 use mathlib.Core.Logic.{inl, inr}
-use native.Mathlib.Nat.{pow-suc, le_trans, add-zero, add-suc, suc-add, le_of_suc-le-suc}
-use native.Mathlib.Numerals.{add-one}
+use native.Mathlib.Nat.{pow-suc, add-zero, add-suc, suc-add, le_of_suc-le-suc}
 use native.Mathlib.Omega.{arith}
 use lib.Dec.{ltb}
 use lib.Pow.{pow_mono}
-use borrow.Author.Tests.{lt-ltb, le-ltb, ltb-true, ltb-false}
-use Rattle.answers.specs.Pick.{pick_true, pick_false, pick_case}
+use borrow.Author.Tests.{lt-ltb, ltb-true, ltb-false}
+use Rattle.std.specs.Int.{IsPowerOfTwo}
+use Rattle.answers.specs.Pick.{pick_true, pick_case}
 use Rattle.floats.proofs.Compare.{le_or_lt}
 use Rattle.fine.specs.State.{doubled_to, least_power, LeastPower}
-
-done : (times n p : ℕ) → n ≤ p → doubled_to times n p ≡ p
-unfolding doubled_to
-done zero n p h = refl
-done (suc times) n p h = pick_false _ _ _ (le-ltb p n h)
-
-once : (times n p : ℕ) → p < n → doubled_to (suc times) n p ≡ doubled_to times n (p * 2)
-unfolding doubled_to
-once times n p h = pick_true _ _ _ (lt-ltb p n h)
-
--- of 16 doublings k are made, and no more are needed
-pub enough : (k n p x : ℕ) → n ≤ p → doubled_to (16 - k) n p ≡ x → p ≡ x
-enough k n p x h e = sym (done (16 - k) n p h) ∙ e
-
--- one more is needed
-pub twice : (k n p x : ℕ) → k < 16 → p < n → doubled_to (16 - k) n p ≡ x → doubled_to (16 - (k + 1)) n (p * 2) ≡ x
-twice k n p x h l e =
-    let a : 16 - k ≡ suc (16 - (k + 1)) = omega arith in
-    sym (once (16 - (k + 1)) n p l) ∙ subst (λ (t : ℕ). doubled_to t n p ≡ x) a e
-
--- all of them
-pub last : (k n p x : ℕ) → 16 ≤ k → doubled_to (16 - k) n p ≡ x → p ≡ x
-unfolding doubled_to
-last k n p x h e =
-    let a : 16 - k ≡ 0 = omega arith in
-    subst (λ (t : ℕ). doubled_to t n p ≡ x) a e
 
 -- ---- what is found is the least power of two not below n, for an n up to 2^16
 
@@ -59,9 +33,35 @@ doubled_least (suc times) k n h l =
 pub least_power_lem : (n : ℕ) → n ≤ 65536 → LeastPower n (least_power n)
 least_power_lem n h = doubled_least 16 0 n h (λ j r. omega arith)
 
--- k doublings of 1 reach 2^k at most
-pub reach_double : (k p : ℕ) → p ≤ 2 ^ k → p * 2 ≤ 2 ^ (k + 1)
-reach_double k p h = rw add-one (omega (arith, pow-suc 2 k))
+-- ---- what `next_power_of_two` gives is that number
 
-pub reach_most : (k p : ℕ) → k ≤ 16 → p ≤ 2 ^ k → p ≤ 65536
-reach_most k p h l = le_trans l (pow_mono h)
+-- from 2^16 on, every doubling is made
+doubled_past : (times k n : ℕ) → 2 ^ (k + times) ≤ n → doubled_to times n (2 ^ k) ≡ 2 ^ (k + times)
+unfolding doubled_to
+doubled_past zero k n h = ap (λ (j : ℕ). 2 ^ j) (sym (add-zero k))
+doubled_past (suc times) k n h =
+    let e : k + suc times ≡ suc k + times = add-suc k times ∙ sym (suc-add k times) in
+    let first : 1 ≤ 2 ^ k = pow_mono {i = 0} {j = k} (omega arith) in
+    let next : 2 ^ suc k ≤ 2 ^ (suc k + times) = pow_mono (omega arith) in
+    let far : 2 ^ (suc k + times) ≤ n = subst (λ (j : ℕ). 2 ^ j ≤ n) e h in
+    pick_true _ _ _ (lt-ltb _ _ (omega (arith, pow-suc 2 k, first, next, far)))
+    ∙ (subst (λ (p : ℕ). doubled_to times n p ≡ 2 ^ (suc k + times)) (pow-suc 2 k) (doubled_past times (suc k) n far)
+    ∙ ap (λ (j : ℕ). 2 ^ j) (sym e))
+
+pub capped : (n : ℕ) → least_power (min n 65536) ≡ least_power n
+capped n = elim (le_or_lt n 65536) [
+  | inl h ↦ let e : min n 65536 ≡ n = omega arith in ap least_power e
+  | inr h ↦ doubled_past 16 0 (min n 65536) (omega arith) ∙ sym (doubled_past 16 0 n (omega arith))
+]
+
+pub next_power : (n p : ℕ) → n ≤ 65536 → IsPowerOfTwo p → n ≤ p → p / 2 < max 1 n → p ≡ least_power n
+next_power n p h (k, e) reaches least =
+    let found = least_power_lem n h in
+    let at_most : least_power n ≤ 2 ^ k = found.least k (subst (λ (q : ℕ). n ≤ q) e reaches) in
+    let first : 1 ≤ 2 ^ found.exponent = pow_mono {i = 0} {j = found.exponent} (omega arith) in
+    elim (le_or_lt k found.exponent) [
+      | inl l ↦ let below : 2 ^ k ≤ 2 ^ found.exponent = pow_mono l in omega (arith, at_most, below, e, found.power)
+      | inr l ↦
+          let above : 2 ^ suc found.exponent ≤ 2 ^ k = pow_mono l in
+          absurd (omega (arith, above, pow-suc 2 found.exponent, first, found.power, found.reaches, e, least))
+    ]

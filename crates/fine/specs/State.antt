@@ -1,5 +1,5 @@
 -- SPECIFICATION 9, 3 and 4: what follows from the span, a new state, the state rules, and refusals 1, 2 and 3.
-use Rattle.std.specs.Prelude.{ℕ, zero, suc, ◌+◌, ◌-◌, ◌*◌, ◌^◌, ◌≤◌, ◌<◌, min, max, ◌≡◌, Bool, false, leb, ltb, eqb}
+use Rattle.std.specs.Prelude.{ℕ, zero, suc, ◌+◌, ◌-◌, ◌*◌, ◌^◌, ◌≤◌, ◌<◌, min, max, ◌≡◌, Bool, false, leb, ltb, eqb, None}
 use Rattle.answers.specs.Pick.{pick, both}
 use Rattle.answers.specs.Refusals.{require, none, outside_table, wrong_length, broken_state}
 use Rattle.answers.specs.Numbers.{limit, allowed_span}
@@ -8,7 +8,6 @@ use Rattle.floats.specs.Functions.{zero64}
 use Rattle.fine.specs.declared.Lengths.{Lengths}
 use Rattle.fine.specs.declared.Frames.{Frames}
 use Rattle.fine.specs.declared.Positions.{Positions}
-use Rattle.fine.specs.declared.Position.TheVariants.{Nothing}
 use Rattle.fine.specs.declared.Scans.{Scans}
 use Rattle.fine.specs.declared.Fine.{Fine}
 
@@ -63,7 +62,7 @@ abbrev pub new_frames : Frames
 new_frames = record { len = 0; retained = false; taken = 0; skipped = 0 }
 
 abbrev pub new_scans : Scans
-new_scans = record { count = 0; ratio = zero64; peak_at = Nothing; origin = samples 0 }
+new_scans = record { count = 0; ratio = zero64; peak_at = None; origin = samples 0 }
 
 -- Makes a state with these lengths that searches from delay 0 on.
 unfoldable pub new_with : Lengths → Fine

@@ -1,17 +1,16 @@
 -- What the reports of the fine stage tell (answers: Told): a delay is told as its samples, a float as its pattern.
-use Rattle.std.specs.Prelude.{ℕ, zero, suc, List, [], ◌∷◌}
+use Rattle.std.specs.Prelude.{ℕ, zero, suc, List, [], ◌∷◌, Option, None, Some}
 use Rattle.std.specs.Float.{binary64}
 use Rattle.std.specs.Float.Ieee.{to_bits}
 use Rattle.answers.specs.Refusals.{none}
 use Rattle.answers.specs.Told.{refused}
+use Rattle.fine.specs.declared.Positions.{Positions}
 use Rattle.fine.specs.declared.SamplesReport.{SamplesReport}
 use Rattle.fine.specs.declared.SamplesReport.TheVariants as samples
 use Rattle.fine.specs.declared.RangeReport.{RangeReport}
 use Rattle.fine.specs.declared.RangeReport.TheVariants as range
 use Rattle.fine.specs.declared.RatioReport.{RatioReport}
 use Rattle.fine.specs.declared.RatioReport.TheVariants as ratio
-use Rattle.fine.specs.declared.Position.{Position}
-use Rattle.fine.specs.declared.Position.TheVariants.{Nothing, At}
 use Rattle.fine.specs.declared.PositionReport.{PositionReport}
 use Rattle.fine.specs.declared.PositionReport.TheVariants as position
 
@@ -29,9 +28,9 @@ ratio_told (ratio.Refused number) = refused number
 ratio_told (ratio.Is x) = 1 ∷ to_bits binary64 x ∷ []
 
 -- There has been no scan yet, or its peak's first and last position.
-abbrev pub place_told : Position → List ℕ
-place_told Nothing = 1 ∷ []
-place_told (At p) = 2 ∷ p.first ∷ p.last ∷ []
+abbrev pub place_told : Option Positions → List ℕ
+place_told None = 1 ∷ []
+place_told (Some p) = 2 ∷ p.first ∷ p.last ∷ []
 
 abbrev pub position_told : PositionReport → List ℕ
 position_told (position.Refused number) = refused number

@@ -4,14 +4,14 @@
 #![tactic(auto)]
 
 ghost use Rattle.std.specs.Prelude.{◌≡◌, ◌≤◌};
-ghost use Rattle.fine.specs.State.{least_power, transform_of, lengths_of, new_with, with_frames, same_lengths, keeps_rules, first_refusals};
+ghost use Rattle.fine.specs.State.{least_power, transform_of, lengths_of, new_with, with_frames, keeps_rules, first_refusals};
 ghost use Rattle.fine.specs.Calls.{changed, made, state_refusal, restarted_at, restarted, relocate_refusal, relocated, was_reset, samples_reported, frame_len, window_len, max_delay, window_back_off, search_range, frames_of, skipped_of, last_scan_ratio, last_scan_peak_at, last_scan_origin, scans_of};
 
 use answers::{Change, Count};
 use units::Samples;
 
 // The span, and what follows from it: the transform length and the near frame's length. All are in samples.
-#[derive(Clone, Copy)]
+#[derive(Clone, Copy, PartialEq, Eq)]
 pub struct Lengths {
     pub span: u32,
     pub transform: u64,
@@ -34,18 +34,12 @@ pub struct Positions {
     pub last: u64,
 }
 
-#[derive(Clone, Copy)]
-pub enum Position {
-    Nothing,
-    At(Positions),
-}
-
 // How many scans there were, and the last one's ratio of peak to mean, its peak's position, and its origin.
 #[derive(Clone, Copy)]
 pub struct Scans {
     pub count: u64,
     pub ratio: f64,
-    pub peak_at: Position,
+    pub peak_at: Option<Positions>,
     pub origin: Samples,
 }
 
@@ -88,7 +82,7 @@ pub enum RatioReport {
 #[derive(Clone, Copy)]
 pub enum PositionReport {
     Refused(u8),
-    Is(Position),
+    Is(Option<Positions>),
 }
 
 // ---- the state that comes back, with the answer
@@ -101,27 +95,21 @@ pub struct Changed {
 
 // ---- what follows from the span
 
-// The shortest transform. None is longer than 65,536, since no span exceeds 32,768.
+// The shortest and the longest transform.
 const MIN_FFT_LEN: u64 = 256;
+
+const MAX_FFT_LEN: u64 = 65536;
 
 fn least_power(n: u64) -> u64
     ensures { (result ≡ least_power n) × (result ≤ 65536) }
 {
-    let mut p: u64 = 1;
-    for _ in 0u64..16 {
-        if n <= p {
-            return p;
-        }
-        p = p * 2;
-    }
-    p
+    n.min(MAX_FFT_LEN).next_power_of_two()
 }
 
 fn transform_len(span: u32) -> u64
     ensures { result ≡ transform_of span }
 {
-    let p = least_power(2 * span as u64);
-    if p < MIN_FFT_LEN { MIN_FFT_LEN } else { p }
+    least_power(2 * span as u64).max(MIN_FFT_LEN)
 }
 
 impl Lengths {
@@ -132,17 +120,8 @@ impl Lengths {
         Lengths {
             span,
             transform,
-            frame: answers::saturating_sub(transform, span as u64),
+            frame: transform.saturating_sub(span as u64),
         }
-    }
-
-    fn same(self, other: Lengths) -> bool
-        ensures { result ≡ same_lengths self other }
-    {
-        if self.transform != other.transform {
-            return false;
-        }
-        self.frame == other.frame
     }
 }
 
@@ -174,7 +153,7 @@ impl Fine {
             scans: Scans {
                 count: 0,
                 ratio: 0.0,
-                peak_at: Position::Nothing,
+                peak_at: None,
                 origin: Samples(0),
             },
         }
@@ -199,15 +178,7 @@ impl Fine {
     pub fn with_frames(self, frames: Frames) -> Fine
         ensures { result ≡ with_frames self frames }
     {
-        let lengths = self.lengths;
-        let origin = self.origin;
-        let scans = self.scans;
-        Fine {
-            lengths,
-            origin,
-            frames,
-            scans,
-        }
+        Fine { frames, ..self }
     }
 
     // ---- refusals, 0 for none
@@ -216,16 +187,9 @@ impl Fine {
         requires { due ≡ lengths_of self.lengths.span }
         ensures { result ≡ keeps_rules self }
     {
-        let lengths = self.lengths;
-        let origin = self.origin;
-        let frames = self.frames;
-        if !lengths.same(due) {
-            return false;
-        }
-        if origin.0 >= answers::LIMIT {
-            return false;
-        }
-        frames.len <= lengths.frame
+        self.lengths == due
+            && self.origin.0 < answers::LIMIT
+            && self.frames.len <= self.lengths.frame
     }
 
     // Gives refusals 1, 2 and 3. `due` is what the span gives; `fitting` says whether each lent buffer has its length.
@@ -233,8 +197,7 @@ impl Fine {
         requires { due ≡ lengths_of self.lengths.span }
         ensures { result ≡ first_refusals self fitting }
     {
-        let lengths = self.lengths;
-        if !answers::allowed_span(lengths.span) {
+        if !answers::allowed_span(self.lengths.span) {
             return answers::OUTSIDE_TABLE;
         }
         if !fitting {
@@ -249,8 +212,7 @@ impl Fine {
     fn refusal(self) -> u8
         ensures { result ≡ state_refusal self }
     {
-        let lengths = self.lengths;
-        self.first_refusals(Lengths::of(lengths.span), true)
+        self.first_refusals(Lengths::of(self.lengths.span), true)
     }
 
     // ---- making, restart, relocation, reset
@@ -274,19 +236,14 @@ impl Fine {
     fn restarted_at(self, origin: Samples) -> Fine
         ensures { result ≡ restarted_at self origin }
     {
-        let lengths = self.lengths;
-        let frames = self.frames;
-        let scans = self.scans;
         Fine {
-            lengths,
             origin,
             frames: Frames {
                 len: 0,
-                retained: frames.retained,
                 taken: 0,
-                skipped: frames.skipped,
+                ..self.frames
             },
-            scans,
+            ..self
         }
     }
 
@@ -294,8 +251,7 @@ impl Fine {
     pub fn restart(self) -> Changed
         ensures { result ≡ restarted self }
     {
-        let origin = self.origin;
-        self.changed(self.refusal(), self.restarted_at(origin))
+        self.changed(self.refusal(), self.restarted_at(self.origin))
     }
 
     fn relocate_refusal(self, origin: Samples) -> u8
@@ -322,8 +278,7 @@ impl Fine {
     pub fn reset(self) -> Changed
         ensures { result ≡ was_reset self }
     {
-        let lengths = self.lengths;
-        self.changed(self.refusal(), Fine::new_with(lengths))
+        self.changed(self.refusal(), Fine::new_with(self.lengths))
     }
 
     // ---- reports
@@ -332,56 +287,49 @@ impl Fine {
     pub fn frame_len(self) -> SamplesReport
         ensures { result ≡ frame_len self }
     {
-        let lengths = self.lengths;
-        SamplesReport::of(self.refusal(), Samples(lengths.frame))
+        SamplesReport::of(self.refusal(), Samples(self.lengths.frame))
     }
 
     // Reports how many far samples one frame needs.
     pub fn window_len(self) -> SamplesReport
         ensures { result ≡ window_len self }
     {
-        let lengths = self.lengths;
         let refusal = self.refusal();
         if refusal != 0 {
             return SamplesReport::Refused(refusal);
         }
-        SamplesReport::Is(Samples(lengths.frame + lengths.span as u64))
+        SamplesReport::Is(Samples(self.lengths.frame + self.lengths.span as u64))
     }
 
     // Reports the span.
     pub fn max_delay(self) -> SamplesReport
         ensures { result ≡ max_delay self }
     {
-        let lengths = self.lengths;
-        SamplesReport::of(self.refusal(), Samples(lengths.span as u64))
+        SamplesReport::of(self.refusal(), Samples(self.lengths.span as u64))
     }
 
     // Reports how far the far window's start lies before the near frame's start.
     pub fn window_back_off(self) -> SamplesReport
         ensures { result ≡ window_back_off self }
     {
-        let lengths = self.lengths;
-        let origin = self.origin;
         let refusal = self.refusal();
         if refusal != 0 {
             return SamplesReport::Refused(refusal);
         }
-        SamplesReport::Is(Samples(origin.0 + lengths.span as u64))
+        SamplesReport::Is(Samples(self.origin.0 + self.lengths.span as u64))
     }
 
     // Reports the delays that are searched.
     pub fn search_range(self) -> RangeReport
         ensures { result ≡ search_range self }
     {
-        let lengths = self.lengths;
-        let origin = self.origin;
         let refusal = self.refusal();
         if refusal != 0 {
             return RangeReport::Refused(refusal);
         }
         RangeReport::Is(Range {
-            first: origin,
-            last: Samples(origin.0 + lengths.span as u64),
+            first: self.origin,
+            last: Samples(self.origin.0 + self.lengths.span as u64),
         })
     }
 
@@ -389,54 +337,46 @@ impl Fine {
     pub fn frames(self) -> Count
         ensures { result ≡ frames_of self }
     {
-        let frames = self.frames;
-        Count::of(self.refusal(), frames.taken as u64)
+        Count::of(self.refusal(), self.frames.taken as u64)
     }
 
     // Counts the frames skipped since the making or the last reset.
     pub fn skipped(self) -> Count
         ensures { result ≡ skipped_of self }
     {
-        let frames = self.frames;
-        Count::of(self.refusal(), frames.skipped as u64)
+        Count::of(self.refusal(), self.frames.skipped as u64)
     }
 
     pub fn last_scan_ratio(self) -> RatioReport
         ensures { result ≡ last_scan_ratio self }
     {
-        let scans = self.scans;
         let refusal = self.refusal();
         if refusal != 0 {
             return RatioReport::Refused(refusal);
         }
-        RatioReport::Is(scans.ratio)
+        RatioReport::Is(self.scans.ratio)
     }
 
     pub fn last_scan_peak_at(self) -> PositionReport
         ensures { result ≡ last_scan_peak_at self }
     {
-        let scans = self.scans;
-        let peak_at = scans.peak_at;
         let refusal = self.refusal();
         if refusal != 0 {
             return PositionReport::Refused(refusal);
         }
-        PositionReport::Is(peak_at)
+        PositionReport::Is(self.scans.peak_at)
     }
 
     pub fn last_scan_origin(self) -> SamplesReport
         ensures { result ≡ last_scan_origin self }
     {
-        let scans = self.scans;
-        let origin = scans.origin;
-        SamplesReport::of(self.refusal(), origin)
+        SamplesReport::of(self.refusal(), self.scans.origin)
     }
 
     // Counts the scans since the making or the last reset.
     pub fn scans(self) -> Count
         ensures { result ≡ scans_of self }
     {
-        let scans = self.scans;
-        Count::of(self.refusal(), scans.count)
+        Count::of(self.refusal(), self.scans.count)
     }
 }

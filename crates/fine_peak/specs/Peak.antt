@@ -1,5 +1,5 @@
 -- SPECIFICATION 9, from "The peak rule" on: the rule over entries 0 to span of the host's correlation.
-use Rattle.std.specs.Prelude.{ℕ, zero, suc, ◌+◌, ◌-◌, Bool, List, length, take, from_bits, nat_le, Float}
+use Rattle.std.specs.Prelude.{ℕ, zero, suc, ◌+◌, ◌-◌, Bool, List, length, take, from_bits, nat_le, Float, Some}
 use Rattle.std.specs.Float.{binary64}
 use Rattle.std.specs.Float.Ieee.{mul, div, lt, le, eq}
 use Rattle.answers.specs.Pick.{pick, either}
@@ -12,7 +12,6 @@ use Rattle.folds.specs.Sums as Sums
 use Rattle.folds.specs.Sums.{upto, all_finite}
 use Rattle.fine.specs.State.{positions, span_of, first_refusals}
 use Rattle.fine.specs.declared.Positions.{Positions}
-use Rattle.fine.specs.declared.Position.TheVariants.{At}
 use Rattle.fine_peak.specs.declared.Lock.{Lock}
 use Rattle.fine.specs.declared.Fine.{Fine}
 use Rattle.fine_peak.specs.declared.PeakAnswer.TheVariants as answer
@@ -81,7 +80,7 @@ recorded s places ratio =
       lengths = s.lengths;
       origin = s.origin;
       frames = s.frames;
-      scans = record { count = next_long_count s.scans.count; ratio = ratio; peak_at = At places; origin = s.origin };
+      scans = record { count = next_long_count s.scans.count; ratio = ratio; peak_at = Some places; origin = s.origin };
     }
 
 -- The answer carries the positions, whether or not there is a candidate.

@@ -8,7 +8,7 @@ ghost use Rattle.answers.specs.Numbers.{limit};
 ghost use Rattle.fine_peak.specs.Peak as Rule;
 ghost use Rattle.fine_peak.specs.Peak.{tie, heights_of, ratio_of, recorded, lock_of, ruled, peak_refusal, searched};
 
-use fine::{Fine, Lengths, Position, Positions, Scans};
+use fine::{Fine, Lengths, Positions, Scans};
 use units::Samples;
 
 // A peak must reach this many times the mean.
@@ -149,7 +149,7 @@ fn record_scan(fine: Fine, peak_at: Positions, ratio: f64) -> Fine
         scans: Scans {
             count: answers::next_long_count(scans.count),
             ratio,
-            peak_at: Position::At(peak_at),
+            peak_at: Some(peak_at),
             origin,
         },
     }

@@ -3,7 +3,7 @@ ghost use Rattle.std.specs.Prelude.{◌≤◌, length};
 
 use crate::peak::Searched;
 use crate::records;
-use fine::{Fine, Frames, Lengths, Position, Positions, Scans};
+use fine::{Fine, Frames, Lengths, Positions, Scans};
 use fine_peak::Lock;
 use vectors::{buffers, patterns};
 
@@ -32,24 +32,13 @@ fn same_frames(frames: Frames, bytes: &[u8]) -> bool
 }
 
 fn same_positions(at: Positions, first: u64, last: u64) -> bool {
-    if at.first != first {
-        return false;
-    }
-    at.last == last
+    at.first == first && at.last == last
 }
 
-fn same_position(p: Position, there: bool, first: u64, last: u64) -> bool {
+fn same_position(p: Option<Positions>, there: bool, first: u64, last: u64) -> bool {
     match p {
-        Position::Nothing => if there {
-            false
-        } else {
-            same_positions(Positions { first: 0, last: 0 }, first, last)
-        },
-        Position::At(at) => if there {
-            same_positions(at, first, last)
-        } else {
-            false
-        },
+        None => !there && first == 0 && last == 0,
+        Some(at) => there && same_positions(at, first, last),
     }
 }
 

@@ -1,4 +1,5 @@
 -- What is stored loads again: `load_after_store`.
+use Rattle.std.specs.Prelude.{Option, None, Some}
 use Prim.Native.Nat.{ℕ}
 use mathlib.Core.Path.{◌≡◌, refl, ◌∙◌}
 use mathlib.Core.Bool.{Bool, true}
@@ -10,15 +11,14 @@ use Rattle.answers.specs.Pick.{pick, both, pick_true}
 use Rattle.words.specs.Words.{word}
 use Rattle.words.proofs.Back.{half_small, reads, flag_reads, flag_case}
 use Rattle.fine.specs.State.{positions}
-use Rattle.fine.specs.declared.Position.{Position}
-use Rattle.fine.specs.declared.Position.TheVariants.{Nothing, At}
+use Rattle.fine.specs.declared.Positions.{Positions}
 use Rattle.fine.specs.declared.Fine.{Fine}
 use Rattle.fine_words.specs.Layout.{loaded_lengths, are_cases, loaded_origin, loaded_frames, loaded_peak_at, loaded_scans, loaded, peak_flag, first_word, last_word, stored}
 use Rattle.fine_words.specs.Fitting.{Fits, LoadsAfterStore}
 
-peak_case : (k : Position) → ltb (peak_flag k) 2 ≡ true
-peak_case Nothing = refl
-peak_case (At p) = refl
+peak_case : (k : Option Positions) → ltb (peak_flag k) 2 ≡ true
+peak_case None = refl
+peak_case (Some p) = refl
 
 all : {a b c d : Bool} → a ≡ true → b ≡ true → c ≡ true → d ≡ true → both a (both b (both c d)) ≡ true
 all {a} {b} {c} {d} p q r t = pick_true a _ _ p ∙ pick_true b _ _ q ∙ pick_true c _ _ r ∙ t
@@ -33,10 +33,10 @@ module _ (ws : List ℕ) (s : Fine) (h : Fits s) where
   origin_back = pick_true _ _ _ cases_hold
 
   module _ (first last : ℕ) where
-    unflagged : (p : Position) → pick (lib.Dec.eqb (peak_flag p) 0) Nothing (At (positions (first_word first p) (last_word last p))) ≡ p
+    unflagged : (p : Option Positions) → pick (lib.Dec.eqb (peak_flag p) 0) None (Some (positions (first_word first p) (last_word last p))) ≡ p
     unfolding pick
-    unflagged Nothing = refl
-    unflagged (At p) = refl
+    unflagged None = refl
+    unflagged (Some p) = refl
 
   peak_back : loaded_peak_at (stored ws s) ≡ s.scans.peak_at
   unfolding loaded_peak_at stored

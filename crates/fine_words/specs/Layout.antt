@@ -1,6 +1,6 @@
 -- Says where each field of a fine state is in the 14 words that a host lends. Every 14 words load: those that no state stores load as one that breaks
 -- a rule, so that a call refuses them with 3 at its place among the refusals.
-use Rattle.std.specs.Prelude.{ℕ, ◌^◌, Bool, List, [], ◌∷◌, ltb, eqb}
+use Rattle.std.specs.Prelude.{ℕ, ◌^◌, Bool, List, [], ◌∷◌, ltb, eqb, Option, None, Some}
 use Rattle.std.specs.Float.{binary64}
 use Rattle.std.specs.Float.Ieee.{of_bits}
 use Rattle.answers.specs.Pick.{pick, both}
@@ -8,10 +8,9 @@ use Rattle.answers.specs.Numbers.{limit}
 use Rattle.units.specs.Units.{samples}
 use Rattle.units.specs.declared.Samples.{Samples}
 use Rattle.fine.specs.State.{positions}
+use Rattle.fine.specs.declared.Positions.{Positions}
 use Rattle.fine.specs.declared.Lengths.{Lengths}
 use Rattle.fine.specs.declared.Frames.{Frames}
-use Rattle.fine.specs.declared.Position.{Position}
-use Rattle.fine.specs.declared.Position.TheVariants.{Nothing, At}
 use Rattle.fine.specs.declared.Scans.{Scans}
 use Rattle.fine.specs.declared.Fine.{Fine}
 use Rattle.words.specs.Words.{word, half, pattern_of, flag_of}
@@ -41,8 +40,8 @@ loaded_origin ws = pick (are_cases ws) (samples (word ws 3)) (samples limit)
 unfoldable pub loaded_frames : List ℕ → Frames
 loaded_frames ws = record { len = word ws 4; retained = eqb (word ws 5) 1; taken = half (word ws 6) 0; skipped = half (word ws 7) 0 }
 
-unfoldable pub loaded_peak_at : List ℕ → Position
-loaded_peak_at ws = pick (eqb (word ws 10) 0) Nothing (At (positions (word ws 11) (word ws 13)))
+unfoldable pub loaded_peak_at : List ℕ → Option Positions
+loaded_peak_at ws = pick (eqb (word ws 10) 0) None (Some (positions (word ws 11) (word ws 13)))
 
 unfoldable pub loaded_scans : List ℕ → Scans
 loaded_scans ws = record { count = word ws 8; ratio = of_bits binary64 (word ws 9); peak_at = loaded_peak_at ws; origin = samples (word ws 12) }
@@ -52,18 +51,18 @@ loaded ws = record { lengths = loaded_lengths ws; origin = loaded_origin ws; fra
 
 -- ---- storing
 
-abbrev pub peak_flag : Position → ℕ
-peak_flag Nothing = 0
-peak_flag (At p) = 1
+abbrev pub peak_flag : Option Positions → ℕ
+peak_flag None = 0
+peak_flag (Some p) = 1
 
 -- Without a position, its words keep what they held.
-abbrev pub first_word : ℕ → Position → ℕ
-first_word old Nothing = old
-first_word old (At p) = p.first
+abbrev pub first_word : ℕ → Option Positions → ℕ
+first_word old None = old
+first_word old (Some p) = p.first
 
-abbrev pub last_word : ℕ → Position → ℕ
-last_word old Nothing = old
-last_word old (At p) = p.last
+abbrev pub last_word : ℕ → Option Positions → ℕ
+last_word old None = old
+last_word old (Some p) = p.last
 
 -- Gives the words of a fine state, stored over ws.
 unfoldable pub stored : List ℕ → Fine → List ℕ

@@ -9,7 +9,7 @@ ghost use Rattle.fine_peak.specs.Told.{peak_told};
 ghost use Rattle.fine_words.specs.Layout.{fine_words};
 ghost use Rattle.fine_words.specs.Answers.{range_values, place_values, peak_values, ratio_given, peak_given, changed_words};
 
-use fine::{Changed, Position, PositionReport, RangeReport, RatioReport, SamplesReport};
+use fine::{Changed, PositionReport, Positions, RangeReport, RatioReport, SamplesReport};
 use fine_gate::{GateAnswer, RescanAnswer, Taking};
 use fine_peak::PeakAnswer;
 
@@ -59,9 +59,7 @@ pub fn settle_change(state: &mut [u64], changed: Changed) -> u32
     ensures number { result ≡ number (change_told changed.answer) }
     ensures words { state.new ≡ changed_words state.old changed }
 {
-    let fine = changed.fine;
-    let answer = changed.answer;
-    crate::settle(state, words::change_number(answer), fine)
+    crate::settle(state, words::change_number(changed.answer), changed.fine)
 }
 
 // ---- what an answer with values writes
@@ -95,14 +93,14 @@ pub fn tell_ratio(values: &mut [u64], pattern: u64, report: RatioReport) -> u32
     }
 }
 
-fn tell_place(values: &mut [u64], place: Position) -> u32
+fn tell_place(values: &mut [u64], place: Option<Positions>) -> u32
     requires { length values.old ≡ place_values }
     ensures number { result ≡ number (place_told place) }
     ensures values { values.new ≡ given values.old (place_told place) }
 {
     match place {
-        Position::Nothing => 16,
-        Position::At(at) => {
+        None => 16,
+        Some(at) => {
             values[0] = at.first;
             values[1] = at.last;
             17
@@ -129,10 +127,8 @@ pub fn tell_range(values: &mut [u64], report: RangeReport) -> u32
     match report {
         RangeReport::Refused(n) => n as u32,
         RangeReport::Is(range) => {
-            let first = range.first;
-            let last = range.last;
-            values[0] = first.0;
-            values[1] = last.0;
+            values[0] = range.first.0;
+            values[1] = range.last.0;
             16
         }
     }
@@ -151,12 +147,10 @@ pub fn tell_peak(values: &mut [u64], answer: PeakAnswer) -> u32
             16
         }
         PeakAnswer::Candidate(lock) => {
-            let delay = lock.delay;
-            let at = lock.peak_at;
-            values[0] = delay.0;
-            values[1] = at.first;
+            values[0] = lock.delay.0;
+            values[1] = lock.peak_at.first;
             values[2] = words::pattern(0, lock.ratio);
-            values[3] = at.last;
+            values[3] = lock.peak_at.last;
             17
         }
     }

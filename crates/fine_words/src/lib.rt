@@ -4,7 +4,7 @@
 ghost use Rattle.std.specs.Prelude.{◌≡◌, length};
 ghost use Rattle.fine_words.specs.Layout.{fine_words, loaded_lengths, are_cases, loaded_origin, loaded_frames, loaded_peak_at, loaded_scans, loaded, peak_flag, first_word, last_word, stored, settled};
 
-use fine::{Fine, Frames, Lengths, Position, Positions, Scans};
+use fine::{Fine, Frames, Lengths, Positions, Scans};
 use units::Samples;
 
 pub mod answering; // what a call answers
@@ -27,16 +27,7 @@ fn are_cases(state: &[u64]) -> bool
     requires { length state.now ≡ fine_words }
     ensures { result ≡ are_cases state.now }
 {
-    if state[5] >= 2 {
-        return false;
-    }
-    if state[6] >= 0x1_0000_0000 {
-        return false;
-    }
-    if state[7] >= 0x1_0000_0000 {
-        return false;
-    }
-    state[10] < 2
+    state[5] < 2 && state[6] < 0x1_0000_0000 && state[7] < 0x1_0000_0000 && state[10] < 2
 }
 
 fn load_origin(state: &[u64]) -> Samples
@@ -61,14 +52,14 @@ fn load_frames(state: &[u64]) -> Frames
     }
 }
 
-fn load_peak_at(state: &[u64]) -> Position
+fn load_peak_at(state: &[u64]) -> Option<Positions>
     requires { length state.now ≡ fine_words }
     ensures { result ≡ loaded_peak_at state.now }
 {
     if state[10] == 0 {
-        return Position::Nothing;
+        return None;
     }
-    Position::At(Positions {
+    Some(Positions {
         first: state[11],
         last: state[13],
     })
@@ -98,44 +89,35 @@ pub fn load(state: &[u64]) -> Fine
     }
 }
 
-fn peak_flag(peak_at: Position) -> u64
+fn peak_flag(peak_at: Option<Positions>) -> u64
     ensures { result ≡ peak_flag peak_at }
 {
-    match peak_at {
-        Position::Nothing => 0,
-        Position::At(_) => 1,
-    }
+    words::flag(peak_at.is_some())
 }
 
 // Without a position, its words keep what they held.
-fn first_word(old: u64, peak_at: Position) -> u64
+fn first_word(old: u64, peak_at: Option<Positions>) -> u64
     ensures { result ≡ first_word old peak_at }
 {
-    match peak_at {
-        Position::Nothing => old,
-        Position::At(at) => at.first,
-    }
+    peak_at.map_or(old, |at| at.first)
 }
 
-fn last_word(old: u64, peak_at: Position) -> u64
+fn last_word(old: u64, peak_at: Option<Positions>) -> u64
     ensures { result ≡ last_word old peak_at }
 {
-    match peak_at {
-        Position::Nothing => old,
-        Position::At(at) => at.last,
-    }
+    peak_at.map_or(old, |at| at.last)
 }
 
 fn store(state: &mut [u64], fine: Fine)
     requires { length state.old ≡ fine_words }
     ensures { state.new ≡ stored state.old fine }
 {
-    let lengths = fine.lengths;
-    let origin = fine.origin;
-    let frames = fine.frames;
-    let scans = fine.scans;
-    let peak_at = scans.peak_at;
-    let scanned_from = scans.origin;
+    let Fine {
+        lengths,
+        origin,
+        frames,
+        scans,
+    } = fine;
     let stored = [
         lengths.span as u64,
         lengths.transform,
@@ -147,10 +129,10 @@ fn store(state: &mut [u64], fine: Fine)
         frames.skipped as u64,
         scans.count,
         words::pattern(state[9], scans.ratio),
-        peak_flag(peak_at),
-        first_word(state[11], peak_at),
-        scanned_from.0,
-        last_word(state[13], peak_at),
+        peak_flag(scans.peak_at),
+        first_word(state[11], scans.peak_at),
+        scans.origin.0,
+        last_word(state[13], scans.peak_at),
     ];
     words::put(&stored, state);
 }
