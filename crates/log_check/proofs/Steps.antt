@@ -1,4 +1,5 @@
 -- One line of a log held against the next that should come: what it says of the first place where the two differ.
+use Rattle.std.specs.Prelude.{Some, None}
 use Prim.Native.Nat.{ℕ, suc, ◌+◌, ◌<◌}
 use native.Mathlib.Omega.{arith}
 use mathlib.Core.Path.{◌≡◌, refl, sym, ap, subst, ◌∙◌}
@@ -19,7 +20,6 @@ use Rattle.log_text.specs.declared.Piece.TheVariants as piece
 use Rattle.log_text.proofs.Text.{same_texts}
 use Rattle.log_text.proofs.Newlines.{cut_tells_lem}
 use Rattle.log_hold.specs.Held.{standing, held}
-use Rattle.log_hold.specs.declared.Due.TheVariants as due
 use Rattle.log_hold.specs.declared.Stands.{Stands}
 use Rattle.log_hold.specs.declared.Stands.TheVariants.{Right, Wrong, Over}
 
@@ -69,7 +69,7 @@ module _ (hand more : List ℕ) (ended : Bool) (b : Behind ended more) (k : ℕ)
     unfolding first_apart
     differ_here x xs e s = subst (λ (z : List (List ℕ)). first_apart k z (text_of l ∷ ls) ≡ At k (front z) (There (text_of l))) (sym e) (pick_false _ _ _ s)
 
-    right_by : (n : ℕ) (p : Piece) → cut_of hand ended ≡ p → standing (due.Line l) hand p ≡ Right n → first_apart k lines (text_of l ∷ ls) ≡ first_apart (k + 1) (lines_of (drop n hand ++ more)) ls
+    right_by : (n : ℕ) (p : Piece) → cut_of hand ended ≡ p → standing (Some l) hand p ≡ Right n → first_apart k lines (text_of l ∷ ls) ≡ first_apart (k + 1) (lines_of (drop n hand ++ more)) ls
     right_by n (piece.Line m) c e =
         pick_case (λ (s : Stands). s ≡ Right n → first_apart k lines (text_of l ∷ ls) ≡ first_apart (k + 1) (lines_of (drop n hand ++ more)) ls) (same_text (take m hand) (text_of l)) _ _
         (λ t e. let size : m + 1 ≡ n = cc in
@@ -90,7 +90,7 @@ module _ (hand more : List ℕ) (ended : Bool) (b : Behind ended more) (k : ℕ)
     right_by n piece.Wants c e = clash (cc)
     right_by n piece.Over c e = clash (cc)
 
-    wrong_by : (p : Piece) → cut_of hand ended ≡ p → standing (due.Line l) hand p ≡ Wrong → first_apart k lines (text_of l ∷ ls) ≡ At k (front lines) (There (text_of l))
+    wrong_by : (p : Piece) → cut_of hand ended ≡ p → standing (Some l) hand p ≡ Wrong → first_apart k lines (text_of l ∷ ls) ≡ At k (front lines) (There (text_of l))
     unfolding first_apart
     wrong_by (piece.Line m) c e =
         pick_case (λ (s : Stands). s ≡ Wrong → first_apart k lines (text_of l ∷ ls) ≡ At k (front lines) (There (text_of l))) (same_text (take m hand) (text_of l)) _ _
@@ -108,11 +108,11 @@ module _ (hand more : List ℕ) (ended : Bool) (b : Behind ended more) (k : ℕ)
     wrong_by piece.Wants c e = clash (cc)
     wrong_by piece.Over c e = subst (λ (z : List (List ℕ)). first_apart k z (text_of l ∷ ls) ≡ At k (front z) (There (text_of l))) (sym (told piece.Over c)) refl
 
-    pub right_step : (n : ℕ) → held (due.Line l) hand ended ≡ Right n → first_apart k lines (text_of l ∷ ls) ≡ first_apart (k + 1) (lines_of (drop n hand ++ more)) ls
+    pub right_step : (n : ℕ) → held (Some l) hand ended ≡ Right n → first_apart k lines (text_of l ∷ ls) ≡ first_apart (k + 1) (lines_of (drop n hand ++ more)) ls
     unfolding held
     right_step n e = right_by n (cut_of hand ended) refl e
 
-    pub wrong_step : held (due.Line l) hand ended ≡ Wrong → first_apart k lines (text_of l ∷ ls) ≡ At k (front lines) (There (text_of l))
+    pub wrong_step : held (Some l) hand ended ≡ Wrong → first_apart k lines (text_of l ∷ ls) ≡ At k (front lines) (There (text_of l))
     unfolding held
     wrong_step e = wrong_by (cut_of hand ended) refl e
 
@@ -121,14 +121,14 @@ module _ (hand more : List ℕ) (ended : Bool) (b : Behind ended more) (k : ℕ)
   unfolding first_apart
   more_here x xs e = subst (λ (z : List (List ℕ)). first_apart k z [] ≡ At k (front z) Nothing) (sym e) refl
 
-  extra_by : (p : Piece) → cut_of hand ended ≡ p → standing due.Nothing hand p ≡ Wrong → first_apart k lines [] ≡ At k (front lines) Nothing
+  extra_by : (p : Piece) → cut_of hand ended ≡ p → standing None hand p ≡ Wrong → first_apart k lines [] ≡ At k (front lines) Nothing
   extra_by (piece.Line m) c e = more_here (take m hand) (lines_of (drop (suc m) hand ++ more)) (told (piece.Line m) c)
   extra_by (piece.Last m) c e = more_here hand [] (told (piece.Last m) c).0
   extra_by piece.Long c e = let is = told piece.Long c in more_here is.line is.others is.parts
   extra_by piece.Wants c e = clash (cc)
   extra_by piece.Over c e = clash (cc)
 
-  over_by : (p : Piece) → cut_of hand ended ≡ p → standing due.Nothing hand p ≡ Over → first_apart k lines [] ≡ Same
+  over_by : (p : Piece) → cut_of hand ended ≡ p → standing None hand p ≡ Over → first_apart k lines [] ≡ Same
   unfolding first_apart
   over_by (piece.Line m) c e = clash (cc)
   over_by (piece.Last m) c e = clash (cc)
@@ -136,10 +136,10 @@ module _ (hand more : List ℕ) (ended : Bool) (b : Behind ended more) (k : ℕ)
   over_by piece.Wants c e = clash (cc)
   over_by piece.Over c e = ap (λ (z : List (List ℕ)). first_apart k z []) (told piece.Over c)
 
-  pub extra_step : held due.Nothing hand ended ≡ Wrong → first_apart k lines [] ≡ At k (front lines) Nothing
+  pub extra_step : held None hand ended ≡ Wrong → first_apart k lines [] ≡ At k (front lines) Nothing
   unfolding held
   extra_step e = extra_by (cut_of hand ended) refl e
 
-  pub over_step : held due.Nothing hand ended ≡ Over → first_apart k lines [] ≡ Same
+  pub over_step : held None hand ended ≡ Over → first_apart k lines [] ≡ Same
   unfolding held
   over_step e = over_by (cut_of hand ended) refl e

@@ -1,5 +1,5 @@
 -- Any host's verdict is `checked`.
-use Rattle.std.specs.Prelude.{Some}
+use Rattle.std.specs.Prelude.{Some, None}
 use Prim.Native.Nat.{ℕ, ◌+◌}
 use mathlib.Core.Path.{◌≡◌, refl, sym, ap, subst, ◌∙◌}
 use mathlib.Core.Bool.{Bool, true, false}
@@ -13,7 +13,6 @@ use Rattle.log_text.specs.Text.{lines_of}
 use Rattle.log_text.specs.Apart.{Nothing, There, Apart, Same, first_apart}
 use Rattle.log_text.specs.Cut.{Behind}
 use Rattle.log_hold.specs.Held.{held}
-use Rattle.log_hold.specs.declared.Due.TheVariants as due
 use Rattle.log_hold.specs.declared.Stands.TheVariants.{Right, Wrong, Over}
 use Rattle.recording.specs.declared.Header.{Header}
 use Rattle.recording.specs.Recording.{offset_of, opened}
@@ -49,20 +48,20 @@ behind log p f = by p.ended refl
 -- ---- a line of the log, as a host has its bytes
 
 module _ (log : List ℕ) (p : Piece) (f : Front log p) (k : ℕ) where
-  right_here : (l : Line) (ls : List (List ℕ)) (n : ℕ) → held (due.Line l) p.bytes p.ended ≡ Right n → first_apart k (lines_of log) (text_of l ∷ ls) ≡ first_apart (k + 1) (lines_of (drop n p.bytes ++ f.later)) ls
+  right_here : (l : Line) (ls : List (List ℕ)) (n : ℕ) → held (Some l) p.bytes p.ended ≡ Right n → first_apart k (lines_of log) (text_of l ∷ ls) ≡ first_apart (k + 1) (lines_of (drop n p.bytes ++ f.later)) ls
   right_here l ls n e = ap (λ (z : List ℕ). first_apart k (lines_of z) (text_of l ∷ ls)) f.joins ∙ right_step p.bytes f.later p.ended (behind log p f) k l ls n e
 
-  wrong_here : (l : Line) (ls : List (List ℕ)) → held (due.Line l) p.bytes p.ended ≡ Wrong → wrong_at k log (There (text_of l)) ≡ first_apart k (lines_of log) (text_of l ∷ ls)
+  wrong_here : (l : Line) (ls : List (List ℕ)) → held (Some l) p.bytes p.ended ≡ Wrong → wrong_at k log (There (text_of l)) ≡ first_apart k (lines_of log) (text_of l ∷ ls)
   wrong_here l ls e =
       subst (λ (z : List ℕ). wrong_at k z (There (text_of l)) ≡ first_apart k (lines_of z) (text_of l ∷ ls)) (sym f.joins)
       (sym (wrong_step p.bytes f.later p.ended (behind log p f) k l ls e))
 
-  extra_here : held due.Nothing p.bytes p.ended ≡ Wrong → wrong_at k log Nothing ≡ first_apart k (lines_of log) []
+  extra_here : held None p.bytes p.ended ≡ Wrong → wrong_at k log Nothing ≡ first_apart k (lines_of log) []
   extra_here e =
       subst (λ (z : List ℕ). wrong_at k z Nothing ≡ first_apart k (lines_of z) []) (sym f.joins)
       (sym (extra_step p.bytes f.later p.ended (behind log p f) k e))
 
-  over_here : held due.Nothing p.bytes p.ended ≡ Over → Same ≡ first_apart k (lines_of log) []
+  over_here : held None p.bytes p.ended ≡ Over → Same ≡ first_apart k (lines_of log) []
   over_here e =
       subst (λ (z : List ℕ). Same ≡ first_apart k (lines_of z) []) (sym f.joins)
       (sym (over_step p.bytes f.later p.ended (behind log p f) k e))

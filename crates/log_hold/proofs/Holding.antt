@@ -20,8 +20,6 @@ use Rattle.log_text.specs.declared.Piece.{Piece}
 use Rattle.log_text.specs.declared.Piece.TheVariants as piece
 use Rattle.log_text.proofs.Newlines.{cut_tells_lem}
 use Rattle.log_hold.specs.Held.{standing, held, wanting}
-use Rattle.log_hold.specs.declared.Due.{Due}
-use Rattle.log_hold.specs.declared.Due.TheVariants as due
 use Rattle.log_hold.specs.declared.Stands.{Stands}
 use Rattle.log_hold.specs.declared.Stands.TheVariants.{Right, Wrong}
 
@@ -90,32 +88,32 @@ cut_last_within bytes ended {n} a b = let z = cut_last_whole bytes n ended (sym 
 
 -- ---- what is held
 
-pub held_by : (d : Due) (hand : List ℕ) (ended : Bool) {p q : Piece} → p ≡ q → p ≡ cut_of hand ended → standing d hand q ≡ held d hand ended
+pub held_by : (d : Option Line) (hand : List ℕ) (ended : Bool) {p q : Piece} → p ≡ q → p ≡ cut_of hand ended → standing d hand q ≡ held d hand ended
 unfolding held
 held_by d hand ended e c = ap (standing d hand) (sym e ∙ c)
 
 pub held_line : (l : Line) (hand text : List ℕ) (ended same : Bool) (k : ℕ) {p q : Piece} {r : Stands} → p ≡ q → p ≡ cut_of hand ended → same ≡ same_text text (text_of l) → r ≡ pick same (Right k) Wrong
-    → pick (same_text text (text_of l)) (Right k) Wrong ≡ standing (due.Line l) hand q → r ≡ held (due.Line l) hand ended
-held_line l hand text ended same k e c s r is = r ∙ ap (λ (b : Bool). pick b (Right k) Wrong) s ∙ is ∙ held_by (due.Line l) hand ended e c
+    → pick (same_text text (text_of l)) (Right k) Wrong ≡ standing (Some l) hand q → r ≡ held (Some l) hand ended
+held_line l hand text ended same k e c s r is = r ∙ ap (λ (b : Bool). pick b (Right k) Wrong) s ∙ is ∙ held_by (Some l) hand ended e c
 
 -- more is wanted only where more may come
-wants_cut : (d : Due) (hand : List ℕ) (p : Piece) → wanting (standing d hand p) ≡ true → p ≡ piece.Wants
-wants_cut (due.Line l) hand (piece.Line n) e = pick_case (λ (s : Stands). wanting s ≡ true → piece.Line n ≡ piece.Wants) (same_text (take n hand) (text_of l)) _ _ (λ t e. absurd (false≢true e)) (λ t e. absurd (false≢true e)) e
-wants_cut (due.Line l) hand (piece.Last n) e = pick_case (λ (s : Stands). wanting s ≡ true → piece.Last n ≡ piece.Wants) (same_text (take n hand) (text_of l)) _ _ (λ t e. absurd (false≢true e)) (λ t e. absurd (false≢true e)) e
-wants_cut (due.Line l) hand piece.Long e = absurd (false≢true e)
-wants_cut (due.Line l) hand piece.Wants e = refl
-wants_cut (due.Line l) hand piece.Over e = absurd (false≢true e)
-wants_cut due.Nothing hand (piece.Line n) e = absurd (false≢true e)
-wants_cut due.Nothing hand (piece.Last n) e = absurd (false≢true e)
-wants_cut due.Nothing hand piece.Long e = absurd (false≢true e)
-wants_cut due.Nothing hand piece.Wants e = refl
-wants_cut due.Nothing hand piece.Over e = absurd (false≢true e)
+wants_cut : (d : Option Line) (hand : List ℕ) (p : Piece) → wanting (standing d hand p) ≡ true → p ≡ piece.Wants
+wants_cut (Some l) hand (piece.Line n) e = pick_case (λ (s : Stands). wanting s ≡ true → piece.Line n ≡ piece.Wants) (same_text (take n hand) (text_of l)) _ _ (λ t e. absurd (false≢true e)) (λ t e. absurd (false≢true e)) e
+wants_cut (Some l) hand (piece.Last n) e = pick_case (λ (s : Stands). wanting s ≡ true → piece.Last n ≡ piece.Wants) (same_text (take n hand) (text_of l)) _ _ (λ t e. absurd (false≢true e)) (λ t e. absurd (false≢true e)) e
+wants_cut (Some l) hand piece.Long e = absurd (false≢true e)
+wants_cut (Some l) hand piece.Wants e = refl
+wants_cut (Some l) hand piece.Over e = absurd (false≢true e)
+wants_cut None hand (piece.Line n) e = absurd (false≢true e)
+wants_cut None hand (piece.Last n) e = absurd (false≢true e)
+wants_cut None hand piece.Long e = absurd (false≢true e)
+wants_cut None hand piece.Wants e = refl
+wants_cut None hand piece.Over e = absurd (false≢true e)
 
 cut_wants : (hand : List ℕ) (ended : Bool) → cut_of hand ended ≡ piece.Wants → ended ≡ false
 cut_wants hand false e = refl
 cut_wants hand true e = (subst (Tells hand true []) e (cut_tells_lem hand [] true refl)).0
 
-pub wants_more : (d : Due) (hand : List ℕ) (left : ℕ) → wanting (held d hand (eqb left 0)) ≡ true → 0 < left
+pub wants_more : (d : Option Line) (hand : List ℕ) (left : ℕ) → wanting (held d hand (eqb left 0)) ≡ true → 0 < left
 unfolding held
 wants_more d hand left e =
     let some : left ≡ 0 → ⊥ = eqb-false left 0 (cut_wants hand (eqb left 0) (wants_cut d hand (cut_of hand (eqb left 0)) e)) in

@@ -1,4 +1,5 @@
 -- Reading on until what stands next is known, and what then becomes of the log.
+use Rattle.std.specs.Prelude.{Option}
 use Prim.Native.Nat.{ℕ, ◌+◌, ◌-◌, ◌≤◌, min}
 use native.Mathlib.Omega.{arith}
 use mathlib.Core.Path.{◌≡◌, sym, ap, subst, ◌∙◌}
@@ -9,15 +10,15 @@ use Rattle.answers.specs.Numbers.{next_long_count}
 use Rattle.pipes.specs.Window.{Within, at_hand, Grown}
 use Rattle.pipes.specs.declared.window.Window.{Window}
 use Rattle.pipes.proofs.Going.{used_hand}
+use Rattle.log_lines.specs.declared.Line.{Line}
 use Rattle.log_text.proofs.Text.{append_nothing}
 use Rattle.log_hold.specs.Reading.{seen, Sought, Goes}
-use Rattle.log_hold.specs.declared.Due.{Due}
 use Rattle.log_hold.specs.declared.Check.{Check}
 use Rattle.log_hold.specs.declared.Stands.{Stands}
 use Rattle.log_hold.specs.declared.Stands.TheVariants.{Right, Wrong, Wants, Over}
 use Rattle.log_hold.specs.declared.Verdict.TheVariants as verdict
 
-module _ (d : Due) (w : Window) (room : List ℕ) where
+module _ (d : Option Line) (w : Window) (room : List ℕ) where
   pub sought_first : (s : Stands) → Within w → s ≡ seen d w room → Sought d w room w room s
   sought_first s i e = record { within = i; more = []; joins = sym (append_nothing (at_hand w room)); counts = omega arith; stands = e }
 
@@ -31,7 +32,7 @@ module _ (d : Due) (w : Window) (room : List ℕ) where
         stands = e;
       }
 
-module _ (c c' : Check) (d : Due) (w : Window) where
+module _ (c c' : Check) (d : Option Line) (w : Window) where
   pub goes_right : {s : Stands} {n : ℕ} → s ≡ Right n → Within w → Within c'.log → c'.log.left ≤ w.left → c'.log.end ≡ w.end → c'.log.at ≡ w.at + min n (w.end - w.at) → c'.line ≡ next_long_count c.line → c'.verdict ≡ verdict.Going → Goes s c d w c'
   goes_right {s} {n} e i i' left end at line v = subst (λ (z : Stands). Goes z c d w c') (sym e) (λ h room. (i', used_hand w room n c'.log i end at, left, line, v))
 

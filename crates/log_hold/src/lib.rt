@@ -15,14 +15,7 @@ use pipes::window;
 use pipes::window::Window;
 use std::fs::File;
 
-// What should stand next.
-#[derive(Clone, Copy)]
-pub enum Due {
-    Line(Line),
-    Nothing,
-}
-
-// What does. Right: that line, and with its newline it has so many bytes. Wants: more bytes are wanted to know. Over: nothing stands where nothing should.
+// What stands next, beside what is due there: a line, or nothing. Right: that line, and with its newline it has so many bytes. Wants: more bytes are wanted to know. Over: nothing stands where nothing should.
 #[derive(Clone, Copy)]
 pub enum Stands {
     Right(usize),
@@ -31,12 +24,12 @@ pub enum Stands {
     Over,
 }
 
-// Wrong: the line number is that of the first wrong line, where this should stand; what does stand there is next in the log.
+// Wrong: the line number is that of the first wrong line, where this line or nothing should stand; what does stand there is next in the log.
 #[derive(Clone, Copy)]
 pub enum Verdict {
     Going,
     Accepted,
-    Wrong(Due),
+    Wrong(Option<Line>),
 }
 
 // How far a log is found right. `line` is the number of the next line, the first being 1.
@@ -58,17 +51,10 @@ fn is_line(line: Line, text: &[u8], room: &mut [u8]) -> bool
     }
 }
 
-fn line_space() -> [u8; 75]
-    ensures { 75 ≡ length result }
-{
-    [0; 75]
-}
-
 fn same_line(line: Line, text: &[u8]) -> bool
     ensures { result ≡ same_text text.now (text_of line) }
 {
-    let mut room = line_space();
-    is_line(line, text, &mut room)
+    is_line(line, text, &mut [0; 75])
 }
 
 fn right_if(same: bool, n: usize) -> Stands
@@ -81,7 +67,7 @@ fn right_if(same: bool, n: usize) -> Stands
 }
 
 fn hold_line(line: Line, bytes: &[u8], ended: bool) -> Stands
-    ensures { result ≡ held (Due.Line line) bytes.now ended }
+    ensures { result ≡ held (Some line) bytes.now ended }
 {
     match log_text::cut(bytes, ended) {
         Piece::Line(n) => right_if(same_line(line, &bytes[..n]), n + 1),
@@ -93,7 +79,7 @@ fn hold_line(line: Line, bytes: &[u8], ended: bool) -> Stands
 }
 
 fn hold_end(bytes: &[u8], ended: bool) -> Stands
-    ensures { result ≡ held Due.Nothing bytes.now ended }
+    ensures { result ≡ held None bytes.now ended }
 {
     match log_text::cut(bytes, ended) {
         Piece::Line(_n) => Stands::Wrong,
@@ -105,34 +91,27 @@ fn hold_end(bytes: &[u8], ended: bool) -> Stands
 }
 
 // What stands next among the bytes at hand, beside what should; `ended` if none come behind them.
-pub fn hold(due: Due, bytes: &[u8], ended: bool) -> Stands
+pub fn hold(due: Option<Line>, bytes: &[u8], ended: bool) -> Stands
     ensures { result ≡ held due bytes.now ended }
 {
     match due {
-        Due::Line(line) => hold_line(line, bytes, ended),
-        Due::Nothing => hold_end(bytes, ended),
+        Some(line) => hold_line(line, bytes, ended),
+        None => hold_end(bytes, ended),
     }
 }
 
 // The same of a window's bytes.
-fn look(log: Window, due: Due, room: &[u8]) -> Stands
+fn look(log: Window, due: Option<Line>, room: &[u8]) -> Stands
     requires { (Within log) × (length room.now ≡ 65536) }
     ensures { result ≡ seen due log room.now }
 {
-    let at = log.at;
-    let end = log.end;
-    hold(due, &room[at..end], window::ended(log))
+    hold(due, &room[log.at..log.end], window::ended(log))
 }
 
 fn wants(stands: Stands) -> bool
     ensures { result ≡ wanting stands }
 {
-    match stands {
-        Stands::Right(_n) => false,
-        Stands::Wrong => false,
-        Stands::Wants => true,
-        Stands::Over => false,
-    }
+    matches!(stands, Stands::Wants)
 }
 
 // A window, and what stands next in it.
@@ -143,7 +122,7 @@ pub struct Found {
 }
 
 // Reads on until what stands next is known.
-fn seek(log: Window, due: Due, from: Option<&File>, room: &mut [u8]) -> Found
+fn seek(log: Window, due: Option<Line>, from: Option<&File>, room: &mut [u8]) -> Found
     requires { (Within log) × (length room.old ≡ 65536) }
     ensures { (Sought due log room.old result.log room.new result.stands) × (wanting result.stands ≡ false) }
 {
@@ -157,7 +136,7 @@ fn seek(log: Window, due: Due, from: Option<&File>, room: &mut [u8]) -> Found
 }
 
 // The log goes on behind the line, was found whole, or is wrong here.
-fn after(check: Check, due: Due, log: Window, stands: Stands) -> Check
+fn after(check: Check, due: Option<Line>, log: Window, stands: Stands) -> Check
     requires { Within log }
     ensures { Goes stands check due log result }
 {
@@ -182,12 +161,10 @@ fn after(check: Check, due: Due, log: Window, stands: Stands) -> Check
 }
 
 // What should stand next in the log, which is read on from the file, is held against what does.
-pub fn hold_next(check: Check, due: Due, from: Option<&File>, room: &mut [u8]) -> Check
+pub fn hold_next(check: Check, due: Option<Line>, from: Option<&File>, room: &mut [u8]) -> Check
     requires { (Within check.log) × (length room.old ≡ 65536) }
     ensures { Held check due room.old result room.new }
 {
     let found = seek(check.log, due, from, room);
-    let log = found.log;
-    let stands = found.stands;
-    after(check, due, log, stands)
+    after(check, due, found.log, found.stands)
 }

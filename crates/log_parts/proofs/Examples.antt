@@ -1,4 +1,5 @@
 -- Two short logs, computed: a frame that differs, one that only the first has, one that only the second has; and texts that are none.
+use Rattle.std.specs.Prelude.{Some, None}
 use mathlib.Core.Path.{◌≡◌, refl}
 use mathlib.Core.List.{List, [], ◌∷◌}
 use Rattle.answers.specs.Pick.{pick}
@@ -9,12 +10,10 @@ use Rattle.log_lines.specs.declared.Line.{Line}
 use Rattle.log_lines.specs.declared.Line.TheVariants.{Frame, End, BadHeader, BadEvent, BadTotals}
 use Rattle.log_lines.specs.declared.Word.TheVariants.{Quiet, Weak, Flat}
 use Rattle.log_text.specs.Text.{same_text}
-use Rattle.log_parts.specs.Sorts.{sort_of, is_of, of_sort, number_of, same_line}
+use Rattle.log_parts.specs.Sorts.{sort_of, is_of, of_sort, number_of, same_line, differ}
 use Rattle.log_parts.specs.declared.Sort.TheVariants.{Closings}
 use Rattle.log_parts.specs.Named.{line_in, NotALog, rises, next_least, named_as, named_from, named}
 use Rattle.log_parts.specs.Numbers.{line_at, differs_at, count, differing, least_of, least_differing, first_by_number}
-use Rattle.log_parts.specs.declared.Side.TheVariants.{Nothing, There}
-use Rattle.log_parts.specs.declared.First.TheVariants.{Differ}
 use Rattle.log_parts.specs.Merge.{merge_in, merge}
 
 abbrev here : List Line
@@ -28,11 +27,11 @@ pub three_differ : differing here there ≡ 3
 unfolding differing count differs_at line_at number_of same_line same_text text_of word_text decimal digits pick
 three_differ = refl
 
-pub two_is_first : first_by_number here there ≡ Differ (There (Frame 2 Weak)) Nothing
+pub two_is_first : first_by_number here there ≡ differ (Some (Frame 2 Weak)) None
 unfolding first_by_number least_differing least_of differs_at line_at number_of same_line same_text text_of word_text decimal digits pick
 two_is_first = refl
 
-pub in_one_pass : merge here there ≡ record { count = 3; first = Differ (There (Frame 2 Weak)) Nothing }
+pub in_one_pass : merge here there ≡ record { count = 3; first = differ (Some (Frame 2 Weak)) None }
 unfolding merge merge_in number_of same_line same_text text_of word_text decimal digits pick
 in_one_pass = refl
 

@@ -1,4 +1,5 @@
 -- Lines without numbers of their own: the one pass takes them pair by pair, and the first difference that it holds is that in their order.
+use Rattle.std.specs.Prelude.{Option, Some, None}
 use Prim.Native.Nat.{ℕ, zero, suc, ◌+◌, ◌≤◌}
 use mathlib.Core.Path.{◌≡◌, refl, ◌∙◌}
 use mathlib.Core.Bool.{Bool, true, false, false≢true}
@@ -8,13 +9,10 @@ use lib.ListN.{length}
 use Rattle.answers.specs.Pick.{pick}
 use Rattle.log_lines.specs.declared.Line.{Line}
 use Rattle.log_lines.specs.declared.Line.TheVariants.{Replay, Frame, Cycle, Refused, End, BadHeader, BadEvent, BadTotals}
-use Rattle.log_parts.specs.Sorts.{sort_of, number_of, is_of, of_sort, same_line}
+use Rattle.log_parts.specs.declared.Difference.{Difference}
+use Rattle.log_parts.specs.Sorts.{sort_of, number_of, is_of, of_sort, same_line, differ}
 use Rattle.log_parts.specs.declared.Sort.{Sort}
 use Rattle.log_parts.specs.declared.Sort.TheVariants.{Headers, Frames, Cycles, Refusals, Closings}
-use Rattle.log_parts.specs.declared.Side.{Side}
-use Rattle.log_parts.specs.declared.Side.TheVariants.{Nothing, There}
-use Rattle.log_parts.specs.declared.First.{First}
-use Rattle.log_parts.specs.declared.First.TheVariants.{Alike, Differ}
 use Rattle.log_parts.specs.declared.Tally.{Tally}
 use Rattle.log_parts.specs.Merge.{or_else, noted, merge_in, unmarked, merge}
 use Rattle.log_parts.specs.Parts.{by_order}
@@ -24,20 +22,20 @@ abbrev pub Unnumbered : List Line → Type 0
 Unnumbered [] = Unit {0}
 Unnumbered (l ∷ ls) = (number_of l ≡ 0) × Unnumbered ls
 
-stays : (f : First) (x y : Side) (g : First) → or_else (or_else f (Differ x y)) g ≡ or_else f (Differ x y)
-stays Alike x y g = refl
-stays (Differ v w) x y g = refl
+stays : (f : Option Difference) (x y : Option Line) (g : Option Difference) → or_else (or_else f (differ x y)) g ≡ or_else f (differ x y)
+stays None x y g = refl
+stays (Some d) x y g = refl
 
-nothing_more : (f : First) → f ≡ or_else f Alike
-nothing_more Alike = refl
-nothing_more (Differ x y) = refl
+nothing_more : (f : Option Difference) → f ≡ or_else f None
+nothing_more None = refl
+nothing_more (Some d) = refl
 
 pairs : (f : ℕ) (t : Tally) (x y : Line) (a b : List Line) → (merge_in f t a b).first ≡ or_else t.first (by_order a b)
-    → (merge_in f (noted t (There x) (There y)) a b).first ≡ or_else (or_else t.first (Differ (There x) (There y))) (by_order a b) → (s : Bool)
-    → (merge_in f (pick s t (noted t (There x) (There y))) a b).first ≡ or_else t.first (pick s (by_order a b) (Differ (There x) (There y)))
+    → (merge_in f (noted t (Some x) (Some y)) a b).first ≡ or_else (or_else t.first (differ (Some x) (Some y))) (by_order a b) → (s : Bool)
+    → (merge_in f (pick s t (noted t (Some x) (Some y))) a b).first ≡ or_else t.first (pick s (by_order a b) (differ (Some x) (Some y)))
 unfolding pick
 pairs f t x y a b e g true = e
-pairs f t x y a b e g false = g ∙ stays t.first (There x) (There y) (by_order a b)
+pairs f t x y a b e g false = g ∙ stays t.first (Some x) (Some y) (by_order a b)
 
 in_order : (f : ℕ) (t : Tally) (a b : List Line) → Unnumbered a → Unnumbered b → length a + length b ≤ f → (merge_in f t a b).first ≡ or_else t.first (by_order a b)
 unfolding merge_in by_order pick
@@ -45,9 +43,9 @@ in_order zero t [] [] p q h = nothing_more t.first
 in_order zero t [] (y ∷ b) p q h = absurd (omega (arith, h))
 in_order zero t (x ∷ a) b p q h = absurd (omega (arith, h))
 in_order (suc f) t [] [] p q h = nothing_more t.first
-in_order (suc f) t [] (y ∷ b) p q h = in_order f (noted t Nothing (There y)) [] b p q.1 (omega (arith, h)) ∙ stays t.first Nothing (There y) (by_order [] b)
-in_order (suc f) t (x ∷ a) [] p q h = in_order f (noted t (There x) Nothing) a [] p.1 q (omega (arith, h)) ∙ stays t.first (There x) Nothing (by_order a [])
-in_order (suc f) t (x ∷ a) (y ∷ b) p q h = rw (p.0, q.0) (pairs f t x y a b (in_order f t a b p.1 q.1 (omega (arith, h))) (in_order f (noted t (There x) (There y)) a b p.1 q.1 (omega (arith, h))) (same_line x y))
+in_order (suc f) t [] (y ∷ b) p q h = in_order f (noted t None (Some y)) [] b p q.1 (omega (arith, h)) ∙ stays t.first None (Some y) (by_order [] b)
+in_order (suc f) t (x ∷ a) [] p q h = in_order f (noted t (Some x) None) a [] p.1 q (omega (arith, h)) ∙ stays t.first (Some x) None (by_order a [])
+in_order (suc f) t (x ∷ a) (y ∷ b) p q h = rw (p.0, q.0) (pairs f t x y a b (in_order f t a b p.1 q.1 (omega (arith, h))) (in_order f (noted t (Some x) (Some y)) a b p.1 q.1 (omega (arith, h))) (same_line x y))
 
 -- the n-th with the n-th
 pub merge_orders : (a b : List Line) → Unnumbered a → Unnumbered b → (merge a b).first ≡ by_order a b

@@ -9,6 +9,7 @@ use lib.Dec.{leb, ltb}
 use lib.ListN.{length}
 use native.Mathlib.Numerals.{add-one}
 use borrow.Author.Tests.{le-leb}
+use Rattle.std.specs.Bool.{then_some}
 use Rattle.answers.specs.Pick.{pick, both}
 use Rattle.log_lines.specs.Calls.{Reads}
 use Rattle.log_lines.specs.declared.Line.{Line}
@@ -17,10 +18,8 @@ use Rattle.log_lines.proofs.Answers.{line_short}
 use Rattle.log_text.specs.Cut.{longest}
 use Rattle.log_parts.specs.Sorts.{sort_of, is_of, number_of}
 use Rattle.log_parts.specs.Named.{line_in, Named, NotALog, in_front, rises, next_least, named_as, named_from}
-use Rattle.log_parts.specs.Judged.{least_after, judged_line, judged_read, judged_text, goes_as}
-use Rattle.log_parts.specs.declared.Last.{Last}
-use Rattle.log_parts.specs.declared.Last.TheVariants.{At}
-use Rattle.log_parts.specs.declared.Judged.TheVariants.{Good, Strange}
+use Rattle.log_parts.specs.declared.Judged.{Judged}
+use Rattle.log_parts.specs.Judged.{good, least_after, judged_line, judged_read, judged_text, goes_as}
 use Rattle.log_parts.proofs.Named.{line_read}
 
 pub above_none : (n : ℕ) → true ≡ leb 0 n
@@ -28,6 +27,11 @@ above_none n = sym (le-leb 0 n (omega arith))
 
 pub above_last : (m n : ℕ) → ltb m n ≡ leb (m + 1) n
 above_last m n = rw add-one
+
+pub then_picked : (b : Bool) (j : Judged) → then_some b j ≡ pick b (Some j) None
+unfolding pick
+then_picked true j = refl
+then_picked false j = refl
 
 -- what the reader's contract admits is what reading answers
 pub read_is : (t : List ℕ) (r : Option Line) → Reads t r → line_in t ≡ r
@@ -39,18 +43,18 @@ read_is t None h = none (line_in t) refl
     none None e = e
 
 -- one text: named as it is judged
-module _ (place : ℕ) (t : List ℕ) (f c : Last) (behind : ℕ → ℕ → Named) where
+module _ (place : ℕ) (t : List ℕ) (f c : Option ℕ) (behind : ℕ → ℕ → Named) where
   step_line : (l : Line) → named_as place (least_after f) (least_after c) t (Some l) behind ≡ goes_as place t (judged_line f c l) behind
   unfolding named_as goes_as judged_line rises next_least is_of sort_of number_of pick least_after
   step_line (Replay r d) = refl
   step_line (Frame n w) = each (leb (least_after f) n)
     where
-      each : (b : Bool) → pick (both b true) (in_front (Frame n w) (behind (n + 1) (least_after c))) (NotALog place t) ≡ goes_as place t (pick b (Good (Frame n w) (At n) c) Strange) behind
+      each : (b : Bool) → pick (both b true) (in_front (Frame n w) (behind (n + 1) (least_after c))) (NotALog place t) ≡ goes_as place t (pick b (good (Frame n w) (Some n) c) None) behind
       each true = refl
       each false = refl
   step_line (Cycle n v) = each (leb (least_after c) n)
     where
-      each : (b : Bool) → pick b (in_front (Cycle n v) (behind (least_after f) (n + 1))) (NotALog place t) ≡ goes_as place t (pick b (Good (Cycle n v) f (At n)) Strange) behind
+      each : (b : Bool) → pick b (in_front (Cycle n v) (behind (least_after f) (n + 1))) (NotALog place t) ≡ goes_as place t (pick b (good (Cycle n v) f (Some n)) None) behind
       each true = refl
       each false = refl
   step_line (Refused e n) = refl
@@ -65,7 +69,7 @@ module _ (place : ℕ) (t : List ℕ) (f c : Last) (behind : ℕ → ℕ → Nam
   step_read None = refl
 
 -- "are named and the tool stops there": a log is judged text by text, from last numbers that are kept
-pub judge_names : (place : ℕ) (f c : Last) (t : List ℕ) (ts : List (List ℕ)) →
+pub judge_names : (place : ℕ) (f c : Option ℕ) (t : List ℕ) (ts : List (List ℕ)) →
     named_from place (least_after f) (least_after c) (t ∷ ts) ≡ goes_as place t (judged_text f c t) (λ m n. named_from (place + 1) m n ts)
 unfolding named_from judged_text
 judge_names place f c t ts = step_read place t f c (λ m n. named_from (place + 1) m n ts) (line_in t)

@@ -1,4 +1,5 @@
 -- `least_differing` is the least differing number, and there is but one; so the first difference of two lists is that of their lists without a common front.
+use Rattle.std.specs.Prelude.{Option, Some, None}
 use Prim.Native.Nat.{ℕ, ◌+◌, ◌≤◌, ◌<◌}
 use mathlib.Core.Path.{◌≡◌, refl, sym, ap, subst, ◌∙◌}
 use mathlib.Core.Bool.{Bool, true, false, not, true≢false, false≢true}
@@ -9,11 +10,8 @@ use lib.Dec.{eqb, leb}
 use borrow.Author.Tests.{eqb-true, eqb-false, leb-true, leb-false}
 use Rattle.answers.specs.Pick.{pick_true, pick_false, pick_all, pick_case}
 use Rattle.log_lines.specs.declared.Line.{Line}
-use Rattle.log_parts.specs.Sorts.{number_of, same_line, Rising}
+use Rattle.log_parts.specs.Sorts.{number_of, same_line, Rising, differ}
 use Rattle.log_parts.specs.Numbers.{line_at, absent, differs_at, Found, NoNumber, Number, lesser, least_of, least_differing, first_at, first_by_number, PassesTest, Reaches, Least}
-use Rattle.log_parts.specs.declared.Side.{Side}
-use Rattle.log_parts.specs.declared.Side.TheVariants.{Nothing, There}
-use Rattle.log_parts.specs.declared.First.TheVariants.{Differ}
 use Rattle.log_parts.proofs.Numbers.{at_head, at_other, at_below, first_alone, second_alone, pair_at, pair_off}
 
 -- ---- the least number that passes
@@ -41,7 +39,7 @@ found_least : (test : ℕ → Bool) (ls : List Line) (m : ℕ) → test m ≡ tr
 unfolding least_of line_at
 found_least test [] m t e = absurd (true≢false e)
 found_least test (l ∷ ls) m t e =
-    pick_case (λ (s : Side). absent s ≡ false → Reaches m (least_of test (l ∷ ls))) (eqb (number_of l) m) (There l) (line_at m ls)
+    pick_case (λ (s : Option Line). absent s ≡ false → Reaches m (least_of test (l ∷ ls))) (eqb (number_of l) m) (Some l) (line_at m ls)
     (λ h e. let same = eqb-true (number_of l) m h in
     rw (least_of, pick_true _ _ _ (ap test same ∙ t), same) (lesser_itself m (least_of test ls)))
     (λ h e. let r = found_least test ls m t e in
@@ -50,20 +48,20 @@ found_least test (l ∷ ls) m t e =
 
 -- ---- a number that neither has does not differ
 
-absent_both : (m : ℕ) (a b : List Line) → absent (line_at m (a ++ b)) ≡ true → (line_at m a ≡ Nothing) × (line_at m b ≡ Nothing)
+absent_both : (m : ℕ) (a b : List Line) → absent (line_at m (a ++ b)) ≡ true → (line_at m a ≡ None) × (line_at m b ≡ None)
 unfolding line_at
 absent_both m [] b e = (refl, gone (line_at m b) e)
   where
-    gone : (s : Side) → absent s ≡ true → s ≡ Nothing
-    gone Nothing e = refl
-    gone (There l) e = absurd (false≢true e)
+    gone : (s : Option Line) → absent s ≡ true → s ≡ None
+    gone None e = refl
+    gone (Some l) e = absurd (false≢true e)
 absent_both m (x ∷ a) b e =
-    pick_case (λ (s : Side). absent s ≡ true → (line_at m (x ∷ a) ≡ Nothing) × (line_at m b ≡ Nothing)) (eqb (number_of x) m) (There x) (line_at m (a ++ b))
+    pick_case (λ (s : Option Line). absent s ≡ true → (line_at m (x ∷ a) ≡ None) × (line_at m b ≡ None)) (eqb (number_of x) m) (Some x) (line_at m (a ++ b))
     (λ h e. absurd (false≢true e))
     (λ h e. let r = absent_both m a b e in (pick_false _ _ _ h ∙ r.0, r.1))
     e
 
-pub nowhere : (a b : List Line) (m : ℕ) → line_at m a ≡ Nothing → line_at m b ≡ Nothing → differs_at a b m ≡ false
+pub nowhere : (a b : List Line) (m : ℕ) → line_at m a ≡ None → line_at m b ≡ None → differs_at a b m ≡ false
 unfolding differs_at
 nowhere a b m p q = rw (p, q)
 
@@ -109,7 +107,7 @@ module _ (k : ℕ) (a b : List Line) (ra : Rising k a) (rb : Rising k b) where
       each (yes l) = absurd (true≢false (sym t ∙ nowhere a b m (at_below k a m ra l) (at_below k b m rb l)))
       each (no l) = omega (arith, l)
 
-  front_first : differs_at a b k ≡ true → first_by_number a b ≡ Differ (line_at k a) (line_at k b)
+  front_first : differs_at a b k ≡ true → first_by_number a b ≡ differ (line_at k a) (line_at k b)
   front_first t = first_is a b (Number k) (record { passes = t; least = nothing_below })
 
 -- ---- a line whose number is below all of the other list
@@ -120,12 +118,12 @@ lower k [] r = record {}
 lower k (x ∷ a) r = (omega (arith, r.0), r.1)
 
 module _ (x : Line) (a b : List Line) (ra : Rising (number_of x + 1) a) (rb : Rising (number_of x + 1) b) where
-  pub first_told : first_by_number (x ∷ a) b ≡ Differ (There x) Nothing
+  pub first_told : first_by_number (x ∷ a) b ≡ differ (Some x) None
   first_told =
       front_first (number_of x) (x ∷ a) b (omega arith, ra) (lower (number_of x) b rb) (first_alone x a b ra rb)
       ∙ rw (at_head x a, at_below (number_of x + 1) b (number_of x) rb (omega arith))
 
-  pub second_told : first_by_number a (x ∷ b) ≡ Differ Nothing (There x)
+  pub second_told : first_by_number a (x ∷ b) ≡ differ None (Some x)
   second_told =
       front_first (number_of x) a (x ∷ b) (lower (number_of x) a ra) (omega arith, rb) (second_alone x a b ra rb)
       ∙ rw (at_head x b, at_below (number_of x + 1) a (number_of x) ra (omega arith))
@@ -133,9 +131,9 @@ module _ (x : Line) (a b : List Line) (ra : Rising (number_of x + 1) a) (rb : Ri
 -- ---- two lines of one number
 
 module _ (x y : Line) (a b : List Line) (same : number_of x ≡ number_of y) (ra : Rising (number_of x + 1) a) (rb : Rising (number_of x + 1) b) where
-  pub other_told : same_line x y ≡ false → first_by_number (x ∷ a) (y ∷ b) ≡ Differ (There x) (There y)
+  pub other_told : same_line x y ≡ false → first_by_number (x ∷ a) (y ∷ b) ≡ differ (Some x) (Some y)
   other_told s =
-      let h : line_at (number_of x) (y ∷ b) ≡ There y = ap (λ (n : ℕ). line_at n (y ∷ b)) same ∙ at_head y b in
+      let h : line_at (number_of x) (y ∷ b) ≡ Some y = ap (λ (n : ℕ). line_at n (y ∷ b)) same ∙ at_head y b in
       front_first (number_of x) (x ∷ a) (y ∷ b) (omega arith, ra) (omega (arith, same), subst (λ (n : ℕ). Rising (n + 1) b) same rb) (pair_at x y a b same ra rb ∙ ap not s)
       ∙ rw (at_head x a, h)
 

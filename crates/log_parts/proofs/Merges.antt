@@ -1,4 +1,5 @@
 -- Over rising numbers the one pass gives the count and the first difference that are defined by number; and what follows of two lists by going through both so.
+use Rattle.std.specs.Prelude.{Option, Some, None}
 use Prim.Native.Nat.{ℕ, zero, suc, ◌+◌, ◌≤◌}
 use mathlib.Core.Path.{◌≡◌, refl, sym, ap, subst, ◌∙◌}
 use mathlib.Core.Logic.{◌↔◌}
@@ -13,12 +14,9 @@ use Rattle.log_lines.specs.Lines.{text_of}
 use Rattle.log_lines.specs.declared.Line.{Line}
 use Rattle.log_lines.proofs.Theorems.{one_line}
 use Rattle.log_text.proofs.Text.{same_texts, text_itself, text_turned}
-use Rattle.log_parts.specs.Sorts.{number_of, same_line, Rising, AllRanged}
+use Rattle.log_parts.specs.declared.Difference.{Difference}
+use Rattle.log_parts.specs.Sorts.{number_of, same_line, Rising, AllRanged, differ}
 use Rattle.log_parts.specs.Numbers.{line_at, same_side, differs_at, count, differing, Found, NoNumber, Number, least_of, least_differing, first_at, first_by_number}
-use Rattle.log_parts.specs.declared.Side.{Side}
-use Rattle.log_parts.specs.declared.Side.TheVariants.{Nothing, There}
-use Rattle.log_parts.specs.declared.First.{First}
-use Rattle.log_parts.specs.declared.First.TheVariants.{Alike, Differ}
 use Rattle.log_parts.specs.Merge.{or_else, noted, merge_in, unmarked, merge}
 use Rattle.log_parts.specs.declared.Tally.{Tally}
 use Rattle.log_parts.specs.Parts.{turned_first}
@@ -35,32 +33,32 @@ clash z = absurd (omega (arith, z))
 abbrev told : Tally → List Line → List Line → Tally
 told t a b = record { count = t.count + differing a b; first = or_else t.first (first_by_number a b) }
 
-tally : (c d : ℕ) (f g : First) → c ≡ d → f ≡ g → ◌≡◌ {A = Tally} (record { count = c; first = f }) (record { count = d; first = g })
+tally : (c d : ℕ) (f g : Option Difference) → c ≡ d → f ≡ g → ◌≡◌ {A = Tally} (record { count = c; first = f }) (record { count = d; first = g })
 tally c d f g p q = rw (p, q)
 
 -- a difference that is told stays
-told_stays : (f : First) (x y : Side) (g : First) → or_else (or_else f (Differ x y)) g ≡ or_else f (Differ x y)
-told_stays Alike x y g = refl
-told_stays (Differ v w) x y g = refl
+told_stays : (f : Option Difference) (x y : Option Line) (g : Option Difference) → or_else (or_else f (differ x y)) g ≡ or_else f (differ x y)
+told_stays None x y g = refl
+told_stays (Some d) x y g = refl
 
 -- a difference that is noted, where the lists behind it count one less
-noted_told : (t : Tally) (x y : Side) (a b c d : List Line) → differing c d ≡ differing a b + 1 → first_by_number c d ≡ Differ x y → told (noted t x y) a b ≡ told t c d
+noted_told : (t : Tally) (x y : Option Line) (a b c d : List Line) → differing c d ≡ differing a b + 1 → first_by_number c d ≡ differ x y → told (noted t x y) a b ≡ told t c d
 noted_told t x y a b c d p q = tally _ _ _ _ (omega (arith, p)) (told_stays t.first x y (first_by_number a b) ∙ ap (or_else t.first) (sym q))
 
 module _ (t : Tally) (x y : Line) (a b : List Line) (same : number_of x ≡ number_of y) (ra : Rising (number_of x + 1) a) (rb : Rising (number_of x + 1) b) where
-  pair_told : told (pick (same_line x y) t (noted t (There x) (There y))) a b ≡ told t (x ∷ a) (y ∷ b)
+  pair_told : told (pick (same_line x y) t (noted t (Some x) (Some y))) a b ≡ told t (x ∷ a) (y ∷ b)
   pair_told =
       pick_case (λ (u : Tally). told u a b ≡ told t (x ∷ a) (y ∷ b)) (same_line x y) _ _
       (λ s. tally _ _ _ _ (omega (arith, same_counts x y a b same ra rb s)) (ap (or_else t.first) (sym (same_told x y a b same ra rb s))))
-      (λ s. noted_told t (There x) (There y) a b (x ∷ a) (y ∷ b) (other_counts x y a b same ra rb s) (other_told x y a b same ra rb s))
+      (λ s. noted_told t (Some x) (Some y) a b (x ∷ a) (y ∷ b) (other_counts x y a b same ra rb s) (other_told x y a b same ra rb s))
 
 nothing_left : (t : Tally) → told t [] [] ≡ t
 unfolding differing count first_by_number least_differing least_of
 nothing_left t = tally _ _ _ _ (omega arith) (each t.first)
   where
-    each : (f : First) → or_else f Alike ≡ f
-    each Alike = refl
-    each (Differ x y) = refl
+    each : (f : Option Difference) → or_else f None ≡ f
+    each None = refl
+    each (Some d) = refl
 
 pub merged : (f : ℕ) (t : Tally) (k : ℕ) (a b : List Line) → Rising k a → Rising k b → length a + length b ≤ f → merge_in f t a b ≡ told t a b
 unfolding merge_in
@@ -69,21 +67,21 @@ merged zero t k [] (y ∷ b) ra rb h = absurd (omega (arith, h))
 merged zero t k (x ∷ a) b ra rb h = absurd (omega (arith, h))
 merged (suc f) t k [] [] ra rb h = sym (nothing_left t)
 merged (suc f) t k [] (y ∷ b) ra rb h =
-    merged f (noted t Nothing (There y)) (number_of y + 1) [] b (record {}) rb.1 (omega (arith, h))
-    ∙ noted_told t Nothing (There y) [] b [] (y ∷ b) (second_counts y [] b (record {}) rb.1) (second_told y [] b (record {}) rb.1)
+    merged f (noted t None (Some y)) (number_of y + 1) [] b (record {}) rb.1 (omega (arith, h))
+    ∙ noted_told t None (Some y) [] b [] (y ∷ b) (second_counts y [] b (record {}) rb.1) (second_told y [] b (record {}) rb.1)
 merged (suc f) t k (x ∷ a) [] ra rb h =
-    merged f (noted t (There x) Nothing) (number_of x + 1) a [] ra.1 (record {}) (omega (arith, h))
-    ∙ noted_told t (There x) Nothing a [] (x ∷ a) [] (first_counts x a [] ra.1 (record {})) (first_told x a [] ra.1 (record {}))
+    merged f (noted t (Some x) None) (number_of x + 1) a [] ra.1 (record {}) (omega (arith, h))
+    ∙ noted_told t (Some x) None a [] (x ∷ a) [] (first_counts x a [] ra.1 (record {})) (first_told x a [] ra.1 (record {}))
 merged (suc f) t k (x ∷ a) (y ∷ b) ra rb h =
     let P : Tally → Type 0 = λ u. u ≡ told t (x ∷ a) (y ∷ b) in
     pick_case P (ltb (number_of x) (number_of y)) _ _
     (λ e. let above : Rising (number_of x + 1) (y ∷ b) = (omega (arith, ltb-true (number_of x) (number_of y) e), rb.1) in
-    merged f (noted t (There x) Nothing) (number_of x + 1) a (y ∷ b) ra.1 above (omega (arith, h))
-    ∙ noted_told t (There x) Nothing a (y ∷ b) (x ∷ a) (y ∷ b) (first_counts x a (y ∷ b) ra.1 above) (first_told x a (y ∷ b) ra.1 above))
+    merged f (noted t (Some x) None) (number_of x + 1) a (y ∷ b) ra.1 above (omega (arith, h))
+    ∙ noted_told t (Some x) None a (y ∷ b) (x ∷ a) (y ∷ b) (first_counts x a (y ∷ b) ra.1 above) (first_told x a (y ∷ b) ra.1 above))
     (λ e. pick_case P (ltb (number_of y) (number_of x)) _ _
     (λ g. let above : Rising (number_of y + 1) (x ∷ a) = (omega (arith, ltb-true (number_of y) (number_of x) g), ra.1) in
-    merged f (noted t Nothing (There y)) (number_of y + 1) (x ∷ a) b above rb.1 (omega (arith, h))
-    ∙ noted_told t Nothing (There y) (x ∷ a) b (x ∷ a) (y ∷ b) (second_counts y (x ∷ a) b above rb.1) (second_told y (x ∷ a) b above rb.1))
+    merged f (noted t None (Some y)) (number_of y + 1) (x ∷ a) b above rb.1 (omega (arith, h))
+    ∙ noted_told t None (Some y) (x ∷ a) b (x ∷ a) (y ∷ b) (second_counts y (x ∷ a) b above rb.1) (second_told y (x ∷ a) b above rb.1))
     (λ g. let same : number_of x ≡ number_of y = omega (arith, ltb-false (number_of x) (number_of y) e, ltb-false (number_of y) (number_of x) g) in
     let above : Rising (number_of x + 1) b = subst (λ (n : ℕ). Rising (n + 1) b) (sym same) rb.1 in
     merged f _ (number_of x + 1) a b ra.1 above (omega (arith, h)) ∙ pair_told t x y a b same ra.1 above))
@@ -151,10 +149,10 @@ one_list (x ∷ a) (y ∷ b) p q e =
 
 -- none counted, or none told: the texts are the same
 abbrev Agree : List Line → List Line → Type 0
-Agree a b = ((differing a b ≡ 0) → map text_of a ≡ map text_of b) × ((first_by_number a b ≡ Alike) ↔ (differing a b ≡ 0))
+Agree a b = ((differing a b ≡ 0) → map text_of a ≡ map text_of b) × ((first_by_number a b ≡ None) ↔ (differing a b ≡ 0))
 
 -- where one is counted and told
-parts : (a b : List Line) (n : ℕ) (x y : Side) → differing a b ≡ n + 1 → first_by_number a b ≡ Differ x y → Agree a b
+parts : (a b : List Line) (n : ℕ) (x y : Option Line) → differing a b ≡ n + 1 → first_by_number a b ≡ differ x y → Agree a b
 parts a b n x y p q = ((λ e. absurd (omega (arith, p, e))), ((λ e. clash (cc)), λ e. absurd (omega (arith, p, e))))
 
 agree : Steps Agree
@@ -169,7 +167,7 @@ agree = record {
     zero_count : differing [] [] ≡ 0
     zero_count = refl
 
-    zero_first : first_by_number [] [] ≡ Alike
+    zero_first : first_by_number [] [] ≡ None
     zero_first = refl
 
     pair_agrees : (x y : Line) (a b : List Line) → number_of x ≡ number_of y → Rising (number_of x + 1) a → Rising (number_of x + 1) b → Agree a b → (c : Bool) → same_line x y ≡ c → Agree (x ∷ a) (y ∷ b)
@@ -191,7 +189,7 @@ none_counted k a b ra rb p q = (
   λ e. subst (λ (l : List Line). differing a l ≡ 0) e (itself_none k a ra),
 )
 
-pub none_named : (k : ℕ) (a b : List Line) → Rising k a → Rising k b → (first_by_number a b ≡ Alike) ↔ (differing a b ≡ 0)
+pub none_named : (k : ℕ) (a b : List Line) → Rising k a → Rising k b → (first_by_number a b ≡ None) ↔ (differing a b ≡ 0)
 none_named k a b ra rb = (by_steps Agree agree k a b ra rb).1
 
 -- ---- the other way round
@@ -216,11 +214,11 @@ count_turned k a b ra rb = by_steps (λ c d. differing d c ≡ differing c d) tu
             let up : (l : List Line) → Rising (number_of x + 1) l → Rising (number_of y + 1) l = λ l. subst (λ (n : ℕ). Rising (n + 1) l) same in
             omega (arith, other_counts x y a b same ra rb s, other_counts y x b a (sym same) (up b rb) (up a ra) (line_turned x y ∙ s), r)
 
-side_turned : (x y : Side) → same_side y x ≡ same_side x y
-side_turned Nothing Nothing = refl
-side_turned Nothing (There y) = refl
-side_turned (There x) Nothing = refl
-side_turned (There x) (There y) = line_turned x y
+side_turned : (x y : Option Line) → same_side y x ≡ same_side x y
+side_turned None None = refl
+side_turned None (Some y) = refl
+side_turned (Some x) None = refl
+side_turned (Some x) (Some y) = line_turned x y
 
 pub first_turned : (a b : List Line) → first_by_number b a ≡ turned_first (first_by_number a b)
 unfolding first_by_number differs_at

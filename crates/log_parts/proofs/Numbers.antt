@@ -1,4 +1,5 @@
 -- The definitions by number, one line taken off a list at a time; over rising numbers.
+use Rattle.std.specs.Prelude.{Some, None}
 use Prim.Native.Nat.{ℕ, ◌+◌, ◌≤◌, ◌<◌}
 use mathlib.Core.Path.{◌≡◌, refl, sym, ap, ◌∙◌}
 use mathlib.Core.Bool.{Bool, true, false, not}
@@ -9,11 +10,10 @@ use Rattle.answers.specs.Pick.{pick, pick_true, pick_false}
 use Rattle.log_lines.specs.declared.Line.{Line}
 use Rattle.log_parts.specs.Sorts.{number_of, same_line, Rising}
 use Rattle.log_parts.specs.Numbers.{line_at, absent, differs_at, count, differing}
-use Rattle.log_parts.specs.declared.Side.TheVariants.{Nothing, There}
 
 -- ---- the line of a number
 
-pub at_head : (x : Line) (a : List Line) → line_at (number_of x) (x ∷ a) ≡ There x
+pub at_head : (x : Line) (a : List Line) → line_at (number_of x) (x ∷ a) ≡ Some x
 unfolding line_at
 at_head x a = pick_true _ _ _ (eq-eqb (number_of x) (number_of x) refl)
 
@@ -22,7 +22,7 @@ unfolding line_at
 at_other x a n h = pick_false _ _ _ (ne_eqb (number_of x) n h)
 
 -- rising numbers hold none below the first
-pub at_below : (k : ℕ) (a : List Line) (n : ℕ) → Rising k a → n < k → line_at n a ≡ Nothing
+pub at_below : (k : ℕ) (a : List Line) (n : ℕ) → Rising k a → n < k → line_at n a ≡ None
 unfolding line_at
 at_below k [] n r h = refl
 at_below k (x ∷ a) n r h = at_other x a n (λ e. omega (arith, r.0, e)) ∙ at_below (number_of x + 1) a n r.1 (omega (arith, r.0))
@@ -86,7 +86,7 @@ module _ (x y : Line) (a b : List Line) (same : number_of x ≡ number_of y) (ra
   pub pair_at : differs_at (x ∷ a) (y ∷ b) (number_of x) ≡ not (same_line x y)
   unfolding differs_at
   pair_at =
-      let h : line_at (number_of x) (y ∷ b) ≡ There y = ap (λ (n : ℕ). line_at n (y ∷ b)) same ∙ at_head y b in
+      let h : line_at (number_of x) (y ∷ b) ≡ Some y = ap (λ (n : ℕ). line_at n (y ∷ b)) same ∙ at_head y b in
       rw (at_head x a, h)
 
   pub pair_off : (n : ℕ) → (number_of x ≡ n → ⊥) → differs_at (x ∷ a) (y ∷ b) n ≡ differs_at a b n
@@ -98,7 +98,7 @@ module _ (x y : Line) (a b : List Line) (same : number_of x ≡ number_of y) (ra
 
   behind_second : count (λ l. absent (line_at (number_of l) (x ∷ a))) (y ∷ b) ≡ count (λ l. absent (line_at (number_of l) a)) b
   behind_second =
-      let h : line_at (number_of y) (x ∷ a) ≡ There x = ap (λ (n : ℕ). line_at n (x ∷ a)) (sym same) ∙ at_head x a in
+      let h : line_at (number_of y) (x ∷ a) ≡ Some x = ap (λ (n : ℕ). line_at n (x ∷ a)) (sym same) ∙ at_head x a in
       count_no (λ l. absent (line_at (number_of l) (x ∷ a))) y b (ap absent h)
       ∙ count_same (number_of x + 1) b _ _ rb (λ l m. ap absent (at_other x a (number_of l) (λ e. omega (arith, m, e))))
 

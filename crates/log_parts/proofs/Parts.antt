@@ -1,4 +1,5 @@
 -- What `parting` answers of two logs.
+use Rattle.std.specs.Prelude.{Option, None}
 use Prim.Native.Nat.{ℕ}
 use mathlib.Core.Path.{◌≡◌, refl, sym, ap, subst, ◌∙◌}
 use mathlib.Core.Logic.Iff
@@ -12,13 +13,12 @@ use Rattle.log_lines.specs.declared.Line.{Line}
 use Rattle.log_lines.proofs.Theorems.{one_line}
 use Rattle.log_text.specs.Apart as places
 use Rattle.log_text.proofs.Apart as placed
+use Rattle.log_parts.specs.declared.Difference.{Difference}
 use Rattle.log_parts.specs.Sorts.{is_of, of_sort, same_line, Rising, AllRanged}
 use Rattle.log_parts.specs.declared.Sort.{Sort}
 use Rattle.log_parts.specs.declared.Sort.TheVariants.{Headers, Frames, Cycles, Refusals, Closings}
 use Rattle.log_parts.specs.Named.{Named, Lines, NotALog, named, GoodLog}
 use Rattle.log_parts.specs.Numbers.{differing}
-use Rattle.log_parts.specs.declared.First.{First}
-use Rattle.log_parts.specs.declared.First.TheVariants.{Alike}
 use Rattle.log_parts.specs.Parts.{by_order, NotALogLine, Same, Parts, report_of, compared, judged, parting, refusal_of, turned_first, turned_report, turned, AlikeCounts, Merged}
 use Rattle.log_parts.proofs.Merges.{clash, merges, same_texts_of, line_itself, line_turned, none_counted, none_named, count_turned, first_turned}
 use Rattle.log_parts.proofs.Named.{named_exactly}
@@ -81,26 +81,26 @@ names_second s t a k x good e = rw ((named_exactly s a).1 good, e)
 
 -- ---- lines in order
 
-order_texts : (a b : List Line) → AllRanged a → AllRanged b → by_order a b ≡ Alike → a ≡ b
+order_texts : (a b : List Line) → AllRanged a → AllRanged b → by_order a b ≡ None → a ≡ b
 unfolding by_order
 order_texts [] [] p q e = refl
 order_texts [] (y ∷ b) p q e = clash (cc)
 order_texts (x ∷ a) [] p q e = clash (cc)
 order_texts (x ∷ a) (y ∷ b) p q e =
-    pick_case (λ (f : First). f ≡ Alike → x ∷ a ≡ y ∷ b) (same_line x y) _ _
+    pick_case (λ (f : Option Difference). f ≡ None → x ∷ a ≡ y ∷ b) (same_line x y) _ _
     (λ s e. rw (one_line x y p.0 q.0 (same_texts_of x y s), order_texts a b p.1 q.1 e))
     (λ s e. clash (cc))
     e
 
-order_itself : (a : List Line) → by_order a a ≡ Alike
+order_itself : (a : List Line) → by_order a a ≡ None
 unfolding by_order
 order_itself [] = refl
 order_itself (x ∷ a) = pick_true _ _ _ (line_itself x) ∙ order_itself a
 
-pub order_exactly : (a b : List Line) → AllRanged a → AllRanged b → (by_order a b ≡ Alike) ↔ (a ≡ b)
-order_exactly a b p q = (order_texts a b p q, λ e. subst (λ (l : List Line). by_order a l ≡ Alike) e (order_itself a))
+pub order_exactly : (a b : List Line) → AllRanged a → AllRanged b → (by_order a b ≡ None) ↔ (a ≡ b)
+order_exactly a b p q = (order_texts a b p q, λ e. subst (λ (l : List Line). by_order a l ≡ None) e (order_itself a))
 
-turned_pick : (c : Bool) (f g u v : First) → g ≡ turned_first f → v ≡ turned_first u → pick c g v ≡ turned_first (pick c f u)
+turned_pick : (c : Bool) (f g u v : Option Difference) → g ≡ turned_first f → v ≡ turned_first u → pick c g v ≡ turned_first (pick c f u)
 unfolding pick
 turned_pick true f g u v p q = p
 turned_pick false f g u v p q = q
@@ -122,7 +122,7 @@ ranged_of s (l ∷ ls) r = pick_case AllRanged (is_of s l) _ _ (λ e. (r.0, rang
 -- ---- the report
 
 module _ (s t : List (List ℕ)) (a b : List Line) (good-s : GoodLog s a) (good-t : GoodLog t b) where
-  in_order : (o : Sort) → (by_order (of_sort o a) (of_sort o b) ≡ Alike) ↔ (of_sort o a ≡ of_sort o b)
+  in_order : (o : Sort) → (by_order (of_sort o a) (of_sort o b) ≡ None) ↔ (of_sort o a ≡ of_sort o b)
   in_order o = order_exactly (of_sort o a) (of_sort o b) (ranged_of o a good-s.ranged) (ranged_of o b good-t.ranged)
 
   counted : (o : Sort) → Rising 0 (of_sort o a) → Rising 0 (of_sort o b) → (differing (of_sort o a) (of_sort o b) ≡ 0) ↔ (of_sort o a ≡ of_sort o b)

@@ -1,4 +1,5 @@
 -- The turns, one after the other, are the one pass.
+use Rattle.std.specs.Prelude.{Some, None}
 use Prim.Native.Nat.{ℕ, suc}
 use mathlib.Core.Path.{◌≡◌, refl}
 use mathlib.Core.Bool.{Bool, true, false}
@@ -7,7 +8,6 @@ use lib.Dec.{ltb}
 use Rattle.answers.specs.Pick.{pick}
 use Rattle.log_lines.specs.declared.Line.{Line}
 use Rattle.log_parts.specs.Sorts.{number_of, same_line}
-use Rattle.log_parts.specs.declared.Side.TheVariants.{Nothing, There}
 use Rattle.log_parts.specs.Merge.{noted, merge_in}
 use Rattle.log_parts.specs.declared.Tally.{Tally}
 use Rattle.log_parts.specs.Turns.{turn_of, front_of, same_fronts, after}
@@ -21,9 +21,9 @@ merge_turns f t (x ∷ a) [] = refl
 merge_turns f t (x ∷ a) (y ∷ b) = each (ltb (number_of x) (number_of y)) (ltb (number_of y) (number_of x)) (same_line x y)
   where
     each : (l g s : Bool) →
-        pick l (merge_in f (noted t (There x) Nothing) a (y ∷ b)) (
-        pick g (merge_in f (noted t Nothing (There y)) (x ∷ a) b)
-        (merge_in f (pick s t (noted t (There x) (There y))) a b))
+        pick l (merge_in f (noted t (Some x) None) a (y ∷ b)) (
+        pick g (merge_in f (noted t None (Some y)) (x ∷ a) b)
+        (merge_in f (pick s t (noted t (Some x) (Some y))) a b))
         ≡ after f t (x ∷ a) (y ∷ b) (pick l First (pick g Second (pick s Alike Both)))
     each true g s = refl
     each false true s = refl

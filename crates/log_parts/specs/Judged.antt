@@ -4,34 +4,35 @@ use Rattle.answers.specs.Pick.{pick}
 use Rattle.log_lines.specs.declared.Line.{Line}
 use Rattle.log_lines.specs.declared.Line.TheVariants as line
 use Rattle.log_parts.specs.Named.{Named, NotALog, in_front, line_in}
-use Rattle.log_parts.specs.declared.Last.{Last}
-use Rattle.log_parts.specs.declared.Last.TheVariants.{Nothing, At}
 use Rattle.log_parts.specs.declared.Judged.{Judged}
-use Rattle.log_parts.specs.declared.Judged.TheVariants.{Good, Strange}
+
+-- the log goes on with this line, and these are the last numbers with it
+abbrev pub good : Line → Option ℕ → Option ℕ → Option Judged
+good l f c = Some (record { line = l; frames = f; cycles = c })
 
 -- the least number that may come next
-unfoldable pub least_after : Last → ℕ
-least_after Nothing = 0
-least_after (At n) = n + 1
+unfoldable pub least_after : Option ℕ → ℕ
+least_after None = 0
+least_after (Some n) = n + 1
 
-unfoldable pub judged_line : Last → Last → Line → Judged
-judged_line f c (line.Replay rate ceiling) = Good (line.Replay rate ceiling) f c
-judged_line f c (line.Frame n word) = pick (leb (least_after f) n) (Good (line.Frame n word) (At n) c) Strange
-judged_line f c (line.Cycle n verdict) = pick (leb (least_after c) n) (Good (line.Cycle n verdict) f (At n)) Strange
-judged_line f c (line.Refused event number) = Good (line.Refused event number) f c
-judged_line f c (line.End frames cycles) = Good (line.End frames cycles) f c
-judged_line f c line.BadHeader = Good line.BadHeader f c
-judged_line f c (line.BadEvent event) = Good (line.BadEvent event) f c
-judged_line f c line.BadTotals = Good line.BadTotals f c
+unfoldable pub judged_line : Option ℕ → Option ℕ → Line → Option Judged
+judged_line f c (line.Replay rate ceiling) = good (line.Replay rate ceiling) f c
+judged_line f c (line.Frame n word) = pick (leb (least_after f) n) (good (line.Frame n word) (Some n) c) None
+judged_line f c (line.Cycle n verdict) = pick (leb (least_after c) n) (good (line.Cycle n verdict) f (Some n)) None
+judged_line f c (line.Refused event number) = good (line.Refused event number) f c
+judged_line f c (line.End frames cycles) = good (line.End frames cycles) f c
+judged_line f c line.BadHeader = good line.BadHeader f c
+judged_line f c (line.BadEvent event) = good (line.BadEvent event) f c
+judged_line f c line.BadTotals = good line.BadTotals f c
 
-abbrev pub judged_read : Last → Last → Option Line → Judged
+abbrev pub judged_read : Option ℕ → Option ℕ → Option Line → Option Judged
 judged_read f c (Some l) = judged_line f c l
-judged_read f c None = Strange
+judged_read f c None = None
 
-unfoldable pub judged_text : Last → Last → List ℕ → Judged
+unfoldable pub judged_text : Option ℕ → Option ℕ → List ℕ → Option Judged
 judged_text f c t = judged_read f c (line_in t)
 
 -- how a log goes on behind a text that was judged
-unfoldable pub goes_as : ℕ → List ℕ → Judged → (ℕ → ℕ → Named) → Named
-goes_as place t (Good l f c) behind = in_front l (behind (least_after f) (least_after c))
-goes_as place t Strange behind = NotALog place t
+unfoldable pub goes_as : ℕ → List ℕ → Option Judged → (ℕ → ℕ → Named) → Named
+goes_as place t (Some g) behind = in_front g.line (behind (least_after g.frames) (least_after g.cycles))
+goes_as place t None behind = NotALog place t

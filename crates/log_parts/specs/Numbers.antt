@@ -1,29 +1,26 @@
 -- Request b: "the number of differing frames and cycles by number. A frame found in one log only counts as differing." Not as a merge, so that a reader need not run it.
-use Rattle.std.specs.Prelude.{ℕ, ◌+◌, ◌≤◌, ◌≡◌, Bool, true, false, not, List, [], ◌∷◌, ◌++◌, eqb, leb}
+use Rattle.std.specs.Prelude.{ℕ, ◌+◌, ◌≤◌, ◌≡◌, Bool, true, false, not, List, [], ◌∷◌, ◌++◌, eqb, leb, Option, Some, None}
 use Rattle.answers.specs.Pick.{pick}
 use Rattle.log_lines.specs.declared.Line.{Line}
-use Rattle.log_parts.specs.Sorts.{number_of, same_line}
-use Rattle.log_parts.specs.declared.Side.{Side}
-use Rattle.log_parts.specs.declared.Side.TheVariants.{Nothing, There}
-use Rattle.log_parts.specs.declared.First.{First}
-use Rattle.log_parts.specs.declared.First.TheVariants.{Alike, Differ}
+use Rattle.log_parts.specs.Sorts.{number_of, same_line, differ}
+use Rattle.log_parts.specs.declared.Difference.{Difference}
 
 -- ---- what one log has, and where two differ
 
 -- the line of that number, or nothing
-unfoldable pub line_at : ℕ → List Line → Side
-line_at n [] = Nothing
-line_at n (l ∷ ls) = pick (eqb (number_of l) n) (There l) (line_at n ls)
+unfoldable pub line_at : ℕ → List Line → Option Line
+line_at n [] = None
+line_at n (l ∷ ls) = pick (eqb (number_of l) n) (Some l) (line_at n ls)
 
-abbrev pub absent : Side → Bool
-absent Nothing = true
-absent (There l) = false
+abbrev pub absent : Option Line → Bool
+absent None = true
+absent (Some l) = false
 
-abbrev pub same_side : Side → Side → Bool
-same_side Nothing Nothing = true
-same_side Nothing (There m) = false
-same_side (There l) Nothing = false
-same_side (There l) (There m) = same_line l m
+abbrev pub same_side : Option Line → Option Line → Bool
+same_side None None = true
+same_side None (Some m) = false
+same_side (Some l) None = false
+same_side (Some l) (Some m) = same_line l m
 
 -- the two have not the same under that number
 unfoldable pub differs_at : List Line → List Line → ℕ → Bool
@@ -57,12 +54,12 @@ least_of test (l ∷ ls) = pick (test (number_of l)) (lesser (number_of l) (leas
 unfoldable pub least_differing : List Line → List Line → Found
 least_differing a b = least_of (differs_at a b) (a ++ b)
 
-abbrev pub first_at : List Line → List Line → Found → First
-first_at a b NoNumber = Alike
-first_at a b (Number n) = Differ (line_at n a) (line_at n b)
+abbrev pub first_at : List Line → List Line → Found → Option Difference
+first_at a b NoNumber = None
+first_at a b (Number n) = differ (line_at n a) (line_at n b)
 
 -- "the first differing line .. with both texts": that of the least differing number
-unfoldable pub first_by_number : List Line → List Line → First
+unfoldable pub first_by_number : List Line → List Line → Option Difference
 first_by_number a b = first_at a b (least_differing a b)
 
 -- ---- the least as a statement: it passes, and every number that passes is at least it

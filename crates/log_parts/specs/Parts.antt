@@ -1,26 +1,24 @@
 -- Request b: where two logs part.
-use Rattle.std.specs.Prelude.{ℕ, ◌≡◌, ◌↔◌, List, [], ◌∷◌}
+use Rattle.std.specs.Prelude.{ℕ, ◌≡◌, ◌↔◌, List, [], ◌∷◌, Option, Some, None}
 use Rattle.answers.specs.Pick.{pick}
 use Rattle.answers.specs.Refusals.{none, not_a_log_line}
 use Rattle.log_lines.specs.declared.Line.{Line}
 use Rattle.log_text.specs.Apart as places
-use Rattle.log_parts.specs.Sorts.{of_sort, same_line}
+use Rattle.log_parts.specs.Sorts.{of_sort, same_line, differ}
+use Rattle.log_parts.specs.declared.Difference.{Difference}
 use Rattle.log_parts.specs.declared.Sort.{Sort}
 use Rattle.log_parts.specs.declared.Sort.TheVariants.{Headers, Frames, Cycles, Refusals, Closings}
 use Rattle.log_parts.specs.Named.{Named, Lines, NotALog, named}
 use Rattle.log_parts.specs.Numbers.{differing, first_by_number}
-use Rattle.log_parts.specs.declared.Side.TheVariants.{Nothing, There}
-use Rattle.log_parts.specs.declared.First.{First}
-use Rattle.log_parts.specs.declared.First.TheVariants.{Alike, Differ}
 use Rattle.log_parts.specs.Merge.{merge}
 use Rattle.log_parts.specs.declared.Report.{Report}
 
 -- lines without numbers of their own: the n-th with the n-th
-unfoldable pub by_order : List Line → List Line → First
-by_order [] [] = Alike
-by_order [] (y ∷ b) = Differ Nothing (There y)
-by_order (x ∷ a) [] = Differ (There x) Nothing
-by_order (x ∷ a) (y ∷ b) = pick (same_line x y) (by_order a b) (Differ (There x) (There y))
+unfoldable pub by_order : List Line → List Line → Option Difference
+by_order [] [] = None
+by_order [] (y ∷ b) = differ None (Some y)
+by_order (x ∷ a) [] = differ (Some x) None
+by_order (x ∷ a) (y ∷ b) = pick (same_line x y) (by_order a b) (differ (Some x) (Some y))
 
 -- which log, the place and the text of a line that is none; or that the logs are the same; or where they part
 pub data Parted : Type 0 where
@@ -28,10 +26,10 @@ pub data Parted : Type 0 where
   Same : Parted
   Parts : Report → Parted
 
-abbrev pub in_order : Sort → List Line → List Line → First
+abbrev pub in_order : Sort → List Line → List Line → Option Difference
 in_order s a b = by_order (of_sort s a) (of_sort s b)
 
-abbrev pub by_number : Sort → List Line → List Line → First
+abbrev pub by_number : Sort → List Line → List Line → Option Difference
 by_number s a b = first_by_number (of_sort s a) (of_sort s b)
 
 abbrev pub how_many : Sort → List Line → List Line → ℕ
@@ -74,9 +72,9 @@ refusal_of (Parts r) = none
 
 -- ---- with the sides exchanged
 
-abbrev pub turned_first : First → First
-turned_first Alike = Alike
-turned_first (Differ x y) = Differ y x
+abbrev pub turned_first : Option Difference → Option Difference
+turned_first None = None
+turned_first (Some d) = differ d.second d.first
 
 abbrev pub turned_report : Report → Report
 turned_report r =
@@ -101,12 +99,12 @@ turned (Parts r) = Parts (turned_report r)
 -- none of the sort is counted, and none is named, exactly if the logs have the same lines of it
 pub record AlikeCounts (a b : List Line) (r : Report) : Type 0 where
   pub frames_counted : (r.differing_frames ≡ 0) ↔ (of_sort Frames a ≡ of_sort Frames b)
-  pub frames_named : (r.frames ≡ Alike) ↔ (of_sort Frames a ≡ of_sort Frames b)
+  pub frames_named : (r.frames ≡ None) ↔ (of_sort Frames a ≡ of_sort Frames b)
   pub cycles_counted : (r.differing_cycles ≡ 0) ↔ (of_sort Cycles a ≡ of_sort Cycles b)
-  pub cycles_named : (r.cycles ≡ Alike) ↔ (of_sort Cycles a ≡ of_sort Cycles b)
-  pub headers_named : (r.headers ≡ Alike) ↔ (of_sort Headers a ≡ of_sort Headers b)
-  pub refusals_named : (r.refusals ≡ Alike) ↔ (of_sort Refusals a ≡ of_sort Refusals b)
-  pub closings_named : (r.closings ≡ Alike) ↔ (of_sort Closings a ≡ of_sort Closings b)
+  pub cycles_named : (r.cycles ≡ None) ↔ (of_sort Cycles a ≡ of_sort Cycles b)
+  pub headers_named : (r.headers ≡ None) ↔ (of_sort Headers a ≡ of_sort Headers b)
+  pub refusals_named : (r.refusals ≡ None) ↔ (of_sort Refusals a ≡ of_sort Refusals b)
+  pub closings_named : (r.closings ≡ None) ↔ (of_sort Closings a ≡ of_sort Closings b)
 
 -- one pass of a sort over both logs gives its count and its first
 pub record Merged (a b : List Line) (r : Report) : Type 0 where

@@ -1,10 +1,11 @@
 -- Request b: "the first differing line of each sort (header, frame, cycle, refusal, end or `bad`)".
-use Rattle.std.specs.Prelude.{ℕ, ◌+◌, ◌≤◌, ◌≡◌, Bool, true, List, [], ◌∷◌, eqb}
+use Rattle.std.specs.Prelude.{ℕ, ◌+◌, ◌≤◌, ◌≡◌, Bool, true, List, [], ◌∷◌, eqb, Option, Some}
 use Rattle.answers.specs.Pick.{pick}
 use Rattle.log_lines.specs.Lines.{text_of, in_range}
 use Rattle.log_lines.specs.declared.Line.{Line}
 use Rattle.log_lines.specs.declared.Line.TheVariants.{Replay, Frame, Cycle, Refused, End, BadHeader, BadEvent, BadTotals}
 use Rattle.log_text.specs.Text.{same_text}
+use Rattle.log_parts.specs.declared.Difference.{Difference}
 use Rattle.log_parts.specs.declared.Sort.{Sort}
 use Rattle.log_parts.specs.declared.Sort.TheVariants.{Headers, Frames, Cycles, Refusals, Closings}
 
@@ -48,6 +49,10 @@ of_sort s (l ∷ ls) = pick (is_of s l) (l ∷ of_sort s ls) (of_sort s ls)
 -- two lines are the same if their texts are
 unfoldable pub same_line : Line → Line → Bool
 same_line l m = same_text (text_of l) (text_of m)
+
+-- the logs differ: the first has this line, the second that one, or nothing
+abbrev pub differ : Option Line → Option Line → Option Difference
+differ x y = Some (record { first = x; second = y })
 
 -- the numbers rise, from `least` on: none is repeated and none falls
 abbrev pub Rising : ℕ → List Line → Type 0

@@ -1,33 +1,29 @@
 -- One turn of the walk over both lists, by what stands at their fronts. By `merge_turns` the turns are `merge`.
-use Rattle.std.specs.Prelude.{ℕ, Bool, false, List, [], ◌∷◌, ltb}
+use Rattle.std.specs.Prelude.{ℕ, Bool, false, List, [], ◌∷◌, ltb, Option, Some, None}
 use Rattle.answers.specs.Pick.{pick}
 use Rattle.log_lines.specs.declared.Line.{Line}
 use Rattle.log_parts.specs.Sorts.{number_of, same_line}
-use Rattle.log_parts.specs.declared.Side.{Side}
-use Rattle.log_parts.specs.declared.Side.TheVariants.{Nothing, There}
 use Rattle.log_parts.specs.Merge.{noted, merge_in}
 use Rattle.log_parts.specs.declared.Tally.{Tally}
-use Rattle.log_parts.specs.declared.Front.{Front}
-use Rattle.log_parts.specs.declared.Front.TheVariants as front
 use Rattle.log_parts.specs.declared.Turn.{Turn}
 use Rattle.log_parts.specs.declared.Turn.TheVariants.{Over, Alike, First, Second, Both}
 
 -- the lesser number goes first; of equal numbers the texts decide
-unfoldable pub turn_of : Front → Front → Bool → Turn
-turn_of front.Nothing front.Nothing same = Over
-turn_of front.Nothing (front.At n) same = Second
-turn_of (front.At m) front.Nothing same = First
-turn_of (front.At m) (front.At n) same = pick (ltb m n) First (pick (ltb n m) Second (pick same Alike Both))
+unfoldable pub turn_of : Option ℕ → Option ℕ → Bool → Turn
+turn_of None None same = Over
+turn_of None (Some n) same = Second
+turn_of (Some m) None same = First
+turn_of (Some m) (Some n) same = pick (ltb m n) First (pick (ltb n m) Second (pick same Alike Both))
 
 -- ---- at the fronts of two lists
 
-abbrev pub front_of : List Line → Front
-front_of [] = front.Nothing
-front_of (x ∷ a) = front.At (number_of x)
+abbrev pub front_of : List Line → Option ℕ
+front_of [] = None
+front_of (x ∷ a) = Some (number_of x)
 
-abbrev pub line_of : List Line → Side
-line_of [] = Nothing
-line_of (x ∷ a) = There x
+abbrev pub line_of : List Line → Option Line
+line_of [] = None
+line_of (x ∷ a) = Some x
 
 abbrev pub rest_of : List Line → List Line
 rest_of [] = []
@@ -42,6 +38,6 @@ same_fronts (x ∷ a) (y ∷ b) = same_line x y
 unfoldable pub after : ℕ → Tally → List Line → List Line → Turn → Tally
 after f t a b Over = t
 after f t a b Alike = merge_in f t (rest_of a) (rest_of b)
-after f t a b First = merge_in f (noted t (line_of a) Nothing) (rest_of a) b
-after f t a b Second = merge_in f (noted t Nothing (line_of b)) a (rest_of b)
+after f t a b First = merge_in f (noted t (line_of a) None) (rest_of a) b
+after f t a b Second = merge_in f (noted t None (line_of b)) a (rest_of b)
 after f t a b Both = merge_in f (noted t (line_of a) (line_of b)) (rest_of a) (rest_of b)

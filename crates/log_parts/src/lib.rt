@@ -6,8 +6,10 @@ ghost use Rattle.log_parts.specs.Judged.{least_after, judged_line, judged_text};
 ghost use Rattle.log_text.specs.Text.{same_text};
 ghost use Rattle.log_parts.specs.Turns.{turn_of};
 
+use log_lines::Line;
+
 // The sorts of lines that a report names: `replay ..`, frames, cycles, `event .. refused ..`, and what ends a log, `end ..` or `bad ..`.
-#[derive(Clone, Copy)]
+#[derive(Clone, Copy, PartialEq, Eq)]
 pub enum Sort {
     Headers,
     Frames,
@@ -16,105 +18,81 @@ pub enum Sort {
     Closings,
 }
 
-// What one log has in a place or under a number.
+// The first lines of a sort in which two logs differ: what each of them has there, if anything.
 #[derive(Clone, Copy)]
-pub enum Side {
-    Nothing,
-    There(log_lines::Line),
-}
-
-// Two logs are alike in a sort, or these are the first lines that differ.
-#[derive(Clone, Copy)]
-pub enum First {
-    Alike,
-    Differ(Side, Side),
+pub struct Difference {
+    pub first: Option<Line>,
+    pub second: Option<Line>,
 }
 
 // How many lines of a sort differ, and the first of them.
 #[derive(Clone, Copy)]
 pub struct Tally {
     pub count: u64,
-    pub first: First,
+    pub first: Option<Difference>,
 }
 
 // Where two logs part, sort by sort; how many frames and cycles differ; and the first line in which the two are not the same.
 #[derive(Clone, Copy)]
 pub struct Report {
-    pub headers: First,
-    pub frames: First,
-    pub cycles: First,
-    pub refusals: First,
-    pub closings: First,
+    pub headers: Option<Difference>,
+    pub frames: Option<Difference>,
+    pub cycles: Option<Difference>,
+    pub refusals: Option<Difference>,
+    pub closings: Option<Difference>,
     pub differing_frames: u64,
     pub differing_cycles: u64,
     pub place: u64,
 }
 
-// The last number of a sort, if there was one.
+// A line that the log goes on with, and the last frame and cycle numbers with it, where there were any.
 #[derive(Clone, Copy)]
-pub enum Last {
-    Nothing,
-    At(u64),
-}
-
-// A line that the log goes on with, and the last frame and cycle numbers with it; or a text that is refused: 8, not a log line.
-#[derive(Clone, Copy)]
-pub enum Judged {
-    Good(log_lines::Line, Last, Last),
-    Strange,
+pub struct Judged {
+    pub line: Line,
+    pub frames: Option<u64>,
+    pub cycles: Option<u64>,
 }
 
 // The number rises above the last one.
-fn above(last: Last, n: u64) -> bool
+fn above(last: Option<u64>, n: u64) -> bool
     ensures { result ≡ leb (least_after last) n }
 {
-    match last {
-        Last::Nothing => true,
-        Last::At(m) => m < n,
-    }
+    last.is_none_or(|m| m < n)
 }
 
-fn judge_line(frames: Last, cycles: Last, line: log_lines::Line) -> Judged
+fn judge_line(frames: Option<u64>, cycles: Option<u64>, line: Line) -> Option<Judged>
     ensures { result ≡ judged_line frames cycles line }
 {
     match line {
-        log_lines::Line::Replay(_rate, _ceiling) => Judged::Good(line, frames, cycles),
-        log_lines::Line::Frame(n, _word) => {
-            if above(frames, n) {
-                return Judged::Good(line, Last::At(n), cycles);
-            }
-            Judged::Strange
-        }
-        log_lines::Line::Cycle(n, _verdict) => {
-            if above(cycles, n) {
-                return Judged::Good(line, frames, Last::At(n));
-            }
-            Judged::Strange
-        }
-        log_lines::Line::Refused(_event, _number) => Judged::Good(line, frames, cycles),
-        log_lines::Line::End(_frames, _cycles) => Judged::Good(line, frames, cycles),
-        log_lines::Line::BadHeader => Judged::Good(line, frames, cycles),
-        log_lines::Line::BadEvent(_event) => Judged::Good(line, frames, cycles),
-        log_lines::Line::BadTotals => Judged::Good(line, frames, cycles),
+        Line::Frame(n, _word) => above(frames, n).then_some(Judged {
+            line,
+            frames: Some(n),
+            cycles,
+        }),
+        Line::Cycle(n, _verdict) => above(cycles, n).then_some(Judged {
+            line,
+            frames,
+            cycles: Some(n),
+        }),
+        Line::Replay(..)
+        | Line::Refused(..)
+        | Line::End(..)
+        | Line::BadHeader
+        | Line::BadEvent(_)
+        | Line::BadTotals => Some(Judged {
+            line,
+            frames,
+            cycles,
+        }),
     }
 }
 
 // The next line of a log, after these last numbers.
-pub fn judge(frames: Last, cycles: Last, text: &[u8]) -> Judged
+pub fn judge(frames: Option<u64>, cycles: Option<u64>, text: &[u8]) -> Option<Judged>
     ensures { result ≡ judged_text frames cycles text.now }
 {
-    let read = log_lines::read_line(text);
-    match read {
-        Some(line) => judge_line(frames, cycles, line),
-        None => Judged::Strange,
-    }
-}
-
-// The number of the line at hand of one log, or that there is none.
-#[derive(Clone, Copy)]
-pub enum Front {
-    Nothing,
-    At(u64),
+    let line = log_lines::read_line(text)?;
+    judge_line(frames, cycles, line)
 }
 
 // What a walk over both logs does next: it is over; both lines are taken and are alike; the first log's is taken alone, or the second's alone; both are taken and differ.
@@ -128,7 +106,7 @@ pub enum Turn {
 }
 
 fn of_pair(m: u64, n: u64, same: bool) -> Turn
-    ensures { result ≡ turn_of (Front.At m) (Front.At n) same }
+    ensures { result ≡ turn_of (Some m) (Some n) same }
 {
     if m < n {
         return Turn::First;
@@ -142,19 +120,14 @@ fn of_pair(m: u64, n: u64, same: bool) -> Turn
     Turn::Both
 }
 
-// The next turn of the walk, by the numbers and the texts at hand.
-pub fn turn_of(first: Front, text: &[u8], second: Front, other: &[u8]) -> Turn
+// The next turn of the walk, by the numbers and the texts of the lines at hand; a log that is over has none.
+pub fn turn_of(first: Option<u64>, text: &[u8], second: Option<u64>, other: &[u8]) -> Turn
     ensures { result ≡ turn_of first second (same_text text.now other.now) }
 {
-    let same = log_text::same_text(text, other);
-    match first {
-        Front::Nothing => match second {
-            Front::Nothing => Turn::Over,
-            Front::At(_n) => Turn::Second,
-        },
-        Front::At(m) => match second {
-            Front::Nothing => Turn::First,
-            Front::At(n) => of_pair(m, n, same),
-        },
+    match (first, second) {
+        (None, None) => Turn::Over,
+        (None, Some(_)) => Turn::Second,
+        (Some(_), None) => Turn::First,
+        (Some(m), Some(n)) => of_pair(m, n, log_text::same_text(text, other)),
     }
 }

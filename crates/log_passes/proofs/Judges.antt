@@ -1,4 +1,5 @@
 -- A host that goes by `judge_next` comes to what `named` says of the log.
+use Rattle.std.specs.Prelude.{Option, Some, None}
 use Prim.Native.Nat.{ℕ, ◌+◌, ◌^◌, ◌≤◌, ◌<◌}
 use mathlib.Core.Path.{◌≡◌, refl, sym, ap, subst, ◌∙◌}
 use mathlib.Core.Bool.{Bool}
@@ -13,7 +14,6 @@ use Rattle.log_text.specs.Cut.{longest, Behind}
 use Rattle.log_parts.specs.Named.{Named, Lines, NotALog, in_front, named_from}
 use Rattle.log_parts.specs.Judged.{least_after, judged_text, judged_read, goes_as}
 use Rattle.log_parts.specs.declared.Judged.{Judged}
-use Rattle.log_parts.specs.declared.Judged.TheVariants as judged
 use Rattle.log_parts.proofs.Judging.{judge_names, too_long}
 use Rattle.log_passes.specs.Taking.{taken_in}
 use Rattle.log_passes.specs.Judging.{judged_as, judged_in}
@@ -48,12 +48,12 @@ said : (j : Judging) (t : List ℕ) (ts : List (List ℕ)) (used n : ℕ) → j.
 unfolding judged_as goes_as
 said j t ts used n h = each (judged_text j.frames j.cycles t) (judge_names j.place j.frames j.cycles t ts)
   where
-    each : (r : Judged) → named_from j.place (least_after j.frames) (least_after j.cycles) (t ∷ ts) ≡ goes_as j.place t r (λ m n. named_from (j.place + 1) m n ts)
+    each : (r : Option Judged) → named_from j.place (least_after j.frames) (least_after j.cycles) (t ∷ ts) ≡ goes_as j.place t r (λ m n. named_from (j.place + 1) m n ts)
         → Said j t ts used n (judged_as j used n r)
-    each (judged.Good l f c) e =
+    each (Some g) e =
         let up : next_long_count j.place ≡ j.place + 1 = omega (arith, h) in
-        (ap heard e ∙ heard_behind l (named_from (j.place + 1) (least_after f) (least_after c) ts) ∙ ap (λ (k : ℕ). heard (named_from k (least_after f) (least_after c) ts)) (sym up), up, refl)
-    each judged.Strange e = (ap heard e, refl)
+        (ap heard e ∙ heard_behind g.line (named_from (j.place + 1) (least_after g.frames) (least_after g.cycles) ts) ∙ ap (λ (k : ℕ). heard (named_from k (least_after g.frames) (least_after g.cycles) ts)) (sym up), up, refl)
+    each None e = (ap heard e, refl)
 
 -- ---- a step
 

@@ -11,14 +11,11 @@ use Rattle.answers.specs.Pick.{pick_true, pick_false, pick_case}
 use Rattle.log_lines.specs.declared.Line.{Line}
 use Rattle.log_text.specs.Text.{lines_of}
 use Rattle.log_text.specs.Cut.{Behind}
-use Rattle.log_parts.specs.Sorts.{is_of, of_sort, same_line}
+use Rattle.log_parts.specs.Sorts.{is_of, of_sort, same_line, differ}
 use Rattle.log_parts.specs.Named.{line_in}
 use Rattle.log_parts.specs.Merge.{or_else, noted, merge_in}
 use Rattle.log_parts.specs.Turns.{turn_of, after}
 use Rattle.log_parts.specs.declared.Sort.{Sort}
-use Rattle.log_parts.specs.declared.Side.{Side}
-use Rattle.log_parts.specs.declared.Side.TheVariants as side
-use Rattle.log_parts.specs.declared.First.TheVariants.{Differ}
 use Rattle.log_parts.specs.declared.Tally.{Tally}
 use Rattle.log_parts.specs.declared.Turn.{Turn}
 use Rattle.log_parts.specs.declared.Turn.TheVariants as turn
@@ -56,8 +53,8 @@ lines s text = of_sort s (known (lines_of text))
 
 abbrev pub ahead : Sort → Held → List ℕ → List Line
 ahead s Sought text = lines s text
-ahead s (Has side.Nothing) text = []
-ahead s (Has (side.There l)) text = l ∷ lines s text
+ahead s (Has None) text = []
+ahead s (Has (Some l)) text = l ∷ lines s text
 
 -- what an answer of the search says of them
 abbrev Finds : Sort → List ℕ → List ℕ → Found → Type 0
@@ -127,28 +124,28 @@ moves_second s x y z t a b d e = record {
 module _ (s : Sort) (h m i n : List ℕ) where
   seeks_first : (y : Held) (t : Tally) (r : Found) → Finds s h m r → Says s (pass_of Sought y t) h m i n (first_sought (pass_of Sought y t) r)
   unfolding first_sought
-  seeks_first y t (found.Here l k) e = moves_first s Sought (Has (side.There l)) y t (h ++ m) (drop k h ++ m) (i ++ n) e
+  seeks_first y t (found.Here l k) e = moves_first s Sought (Has (Some l)) y t (h ++ m) (drop k h ++ m) (i ++ n) e
   seeks_first y t (found.Other k) e = moves_first s Sought Sought y t (h ++ m) (drop k h ++ m) (i ++ n) e
-  seeks_first y t found.Nothing e = moves_first s Sought (Has side.Nothing) y t (h ++ m) (h ++ m) (i ++ n) e
+  seeks_first y t found.Nothing e = moves_first s Sought (Has None) y t (h ++ m) (h ++ m) (i ++ n) e
   seeks_first y t found.Wants e = record {}
   seeks_first y t found.Strange e = record {}
 
   seeks_second : (x : Held) (t : Tally) (r : Found) → Finds s i n r → Says s (pass_of x Sought t) h m i n (second_sought (pass_of x Sought t) r)
   unfolding second_sought
-  seeks_second x t (found.Here l k) e = moves_second s x Sought (Has (side.There l)) t (h ++ m) (i ++ n) (drop k i ++ n) e
+  seeks_second x t (found.Here l k) e = moves_second s x Sought (Has (Some l)) t (h ++ m) (i ++ n) (drop k i ++ n) e
   seeks_second x t (found.Other k) e = moves_second s x Sought Sought t (h ++ m) (i ++ n) (drop k i ++ n) e
-  seeks_second x t found.Nothing e = moves_second s x Sought (Has side.Nothing) t (h ++ m) (i ++ n) (i ++ n) e
+  seeks_second x t found.Nothing e = moves_second s x Sought (Has None) t (h ++ m) (i ++ n) (i ++ n) e
   seeks_second x t found.Wants e = record {}
   seeks_second x t found.Strange e = record {}
 
 -- ---- a step that turns
 
 -- a count that fits is exact
-marks : (t : Tally) (x y : Side) → t.count + 1 < 2 ^ 64 → noted t x y ≡ marked t x y
+marks : (t : Tally) (x y : Option Line) → t.count + 1 < 2 ^ 64 → noted t x y ≡ marked t x y
 unfolding marked
 marks t x y h =
     let up : t.count + 1 ≡ next_long_count t.count = omega (arith, h) in
-    ap (λ (c : ℕ). record { count = c; first = or_else t.first (Differ x y) }) up
+    ap (λ (c : ℕ). record { count = c; first = or_else t.first (differ x y) }) up
 
 merge_none : (f : ℕ) (t : Tally) → merge_in f t [] [] ≡ t
 unfolding merge_in
@@ -156,7 +153,7 @@ merge_none zero t = refl
 merge_none (suc f) t = refl
 
 -- from one step of the merge, a step of the pass
-taken_on : (s : Sort) (p q : Pass) (a b : List ℕ) (x y : Side) → p.tally.count + 1 < 2 ^ 64 → size s q a b + 1 ≤ size s p a b → q.tally ≡ marked p.tally x y
+taken_on : (s : Sort) (p q : Pass) (a b : List ℕ) (x y : Option Line) → p.tally.count + 1 < 2 ^ 64 → size s q a b + 1 ≤ size s p a b → q.tally ≡ marked p.tally x y
     → ((g : ℕ) → merge_in (suc g) p.tally (ahead s p.first a) (ahead s p.second b) ≡ merge_in g (noted p.tally x y) (ahead s q.first a) (ahead s q.second b))
     → Moves s p q a b a b
 unfolding marked
@@ -171,7 +168,7 @@ taken_on s p q a b x y bound less is step = record {
 
 module _ (s : Sort) (h m i n : List ℕ) (t : Tally) (bound : t.count + 1 < 2 ^ 64) where
   pair_turns : (l k : Line) (u : Turn) → ((g : ℕ) → merge_in (suc g) t (l ∷ lines s (h ++ m)) (k ∷ lines s (i ++ n)) ≡ after g t (l ∷ lines s (h ++ m)) (k ∷ lines s (i ++ n)) u)
-      → Says s (pass_of (Has (side.There l)) (Has (side.There k)) t) h m i n (turned_by t (side.There l) (side.There k) u)
+      → Says s (pass_of (Has (Some l)) (Has (Some k)) t) h m i n (turned_by t (Some l) (Some k) u)
   unfolding turned_by after merge_in
   pair_turns l k turn.Over step = ends
     where
@@ -180,20 +177,20 @@ module _ (s : Sort) (h m i n : List ℕ) (t : Tally) (bound : t.count + 1 < 2 ^ 
       ends (suc g) = step g
   pair_turns l k turn.Alike step = record { same = same; falls = omega arith }
     where
-      same : (f : ℕ) → size s (pass_of (Has (side.There l)) (Has (side.There k)) t) (h ++ m) (i ++ n) ≤ f
-          → (g : ℕ) × (size s (pass_of Sought Sought t) (h ++ m) (i ++ n) ≤ g) × (left s (pass_of (Has (side.There l)) (Has (side.There k)) t) (h ++ m) (i ++ n) f ≡ left s (pass_of Sought Sought t) (h ++ m) (i ++ n) g)
+      same : (f : ℕ) → size s (pass_of (Has (Some l)) (Has (Some k)) t) (h ++ m) (i ++ n) ≤ f
+          → (g : ℕ) × (size s (pass_of Sought Sought t) (h ++ m) (i ++ n) ≤ g) × (left s (pass_of (Has (Some l)) (Has (Some k)) t) (h ++ m) (i ++ n) f ≡ left s (pass_of Sought Sought t) (h ++ m) (i ++ n) g)
       same zero b = absurd (omega (arith, b))
       same (suc g) b = (g, omega (arith, b), step g)
-  pair_turns l k turn.First step = taken_on s _ _ (h ++ m) (i ++ n) (side.There l) side.Nothing bound (omega arith) refl step
-  pair_turns l k turn.Second step = taken_on s _ _ (h ++ m) (i ++ n) side.Nothing (side.There k) bound (omega arith) refl step
-  pair_turns l k turn.Both step = taken_on s _ _ (h ++ m) (i ++ n) (side.There l) (side.There k) bound (omega arith) refl step
+  pair_turns l k turn.First step = taken_on s _ _ (h ++ m) (i ++ n) (Some l) None bound (omega arith) refl step
+  pair_turns l k turn.Second step = taken_on s _ _ (h ++ m) (i ++ n) None (Some k) bound (omega arith) refl step
+  pair_turns l k turn.Both step = taken_on s _ _ (h ++ m) (i ++ n) (Some l) (Some k) bound (omega arith) refl step
 
-  turns : (x y : Side) → Says s (pass_of (Has x) (Has y) t) h m i n (turned_by t x y (turn_at x y))
+  turns : (x y : Option Line) → Says s (pass_of (Has x) (Has y) t) h m i n (turned_by t x y (turn_at x y))
   unfolding turn_at turned_by turn_of front_at side_text same_line merge_in
-  turns side.Nothing side.Nothing = λ f. merge_none f t
-  turns side.Nothing (side.There k) = taken_on s _ _ (h ++ m) (i ++ n) side.Nothing (side.There k) bound (omega arith) refl (λ g. refl)
-  turns (side.There l) side.Nothing = taken_on s _ _ (h ++ m) (i ++ n) (side.There l) side.Nothing bound (omega arith) refl (λ g. refl)
-  turns (side.There l) (side.There k) = pair_turns l k _ (λ g. merge_turns g t (l ∷ lines s (h ++ m)) (k ∷ lines s (i ++ n)))
+  turns None None = λ f. merge_none f t
+  turns None (Some k) = taken_on s _ _ (h ++ m) (i ++ n) None (Some k) bound (omega arith) refl (λ g. refl)
+  turns (Some l) None = taken_on s _ _ (h ++ m) (i ++ n) (Some l) None bound (omega arith) refl (λ g. refl)
+  turns (Some l) (Some k) = pair_turns l k _ (λ g. merge_turns g t (l ∷ lines s (h ++ m)) (k ∷ lines s (i ++ n)))
 
 -- ---- any step
 

@@ -5,17 +5,12 @@ use Rattle.answers.specs.Pick.{pick}
 use Rattle.log_lines.specs.Lines.{text_of}
 use Rattle.log_lines.specs.declared.Line.{Line}
 use Rattle.log_text.specs.Text.{same_text}
-use Rattle.log_parts.specs.Sorts.{is_of, number_of}
+use Rattle.log_parts.specs.Sorts.{is_of, number_of, differ}
 use Rattle.log_parts.specs.Named.{line_in}
 use Rattle.log_parts.specs.Merge.{or_else, unmarked}
 use Rattle.log_parts.specs.Turns.{turn_of}
 use Rattle.log_parts.specs.declared.Sort.{Sort}
-use Rattle.log_parts.specs.declared.Side.{Side}
-use Rattle.log_parts.specs.declared.Side.TheVariants as side
-use Rattle.log_parts.specs.declared.First.TheVariants.{Differ}
 use Rattle.log_parts.specs.declared.Tally.{Tally}
-use Rattle.log_parts.specs.declared.Front.{Front}
-use Rattle.log_parts.specs.declared.Front.TheVariants as front
 use Rattle.log_parts.specs.declared.Turn.{Turn}
 use Rattle.log_parts.specs.declared.Turn.TheVariants as turn
 use Rattle.log_passes.specs.Taking.{taken_in}
@@ -47,20 +42,20 @@ sought_in s bytes taken.Long = found.Strange
 
 -- ---- both logs: which line goes first
 
-unfoldable pub front_at : Side → Front
-front_at side.Nothing = front.Nothing
-front_at (side.There l) = front.At (number_of l)
+unfoldable pub front_at : Option Line → Option ℕ
+front_at None = None
+front_at (Some l) = Some (number_of l)
 
-unfoldable pub side_text : Side → List ℕ
-side_text side.Nothing = []
-side_text (side.There l) = text_of l
+unfoldable pub side_text : Option Line → List ℕ
+side_text None = []
+side_text (Some l) = text_of l
 
-unfoldable pub turn_at : Side → Side → Turn
+unfoldable pub turn_at : Option Line → Option Line → Turn
 turn_at x y = turn_of (front_at x) (front_at y) (same_text (side_text x) (side_text y))
 
 -- one more differs, and the first that does stays; no count passes 64 bits
-unfoldable pub marked : Tally → Side → Side → Tally
-marked t x y = record { count = next_long_count t.count; first = or_else t.first (Differ x y) }
+unfoldable pub marked : Tally → Option Line → Option Line → Tally
+marked t x y = record { count = next_long_count t.count; first = or_else t.first (differ x y) }
 
 -- ---- a step
 
@@ -71,25 +66,25 @@ abbrev pub pass_of : Held → Held → Tally → Pass
 pass_of x y t = record { first = x; second = y; tally = t }
 
 unfoldable pub first_sought : Pass → Found → Step
-first_sought p (found.Here l n) = step_of (pass_of (Has (side.There l)) p.second p.tally) n 0 Goes
+first_sought p (found.Here l n) = step_of (pass_of (Has (Some l)) p.second p.tally) n 0 Goes
 first_sought p (found.Other n) = step_of p n 0 Goes
-first_sought p found.Nothing = step_of (pass_of (Has side.Nothing) p.second p.tally) 0 0 Goes
+first_sought p found.Nothing = step_of (pass_of (Has None) p.second p.tally) 0 0 Goes
 first_sought p found.Wants = step_of p 0 0 WantsFirst
 first_sought p found.Strange = step_of p 0 0 Strange
 
 unfoldable pub second_sought : Pass → Found → Step
-second_sought p (found.Here l n) = step_of (pass_of p.first (Has (side.There l)) p.tally) 0 n Goes
+second_sought p (found.Here l n) = step_of (pass_of p.first (Has (Some l)) p.tally) 0 n Goes
 second_sought p (found.Other n) = step_of p 0 n Goes
-second_sought p found.Nothing = step_of (pass_of p.first (Has side.Nothing) p.tally) 0 0 Goes
+second_sought p found.Nothing = step_of (pass_of p.first (Has None) p.tally) 0 0 Goes
 second_sought p found.Wants = step_of p 0 0 WantsSecond
 second_sought p found.Strange = step_of p 0 0 Strange
 
 -- the lines that are taken are sought anew
-unfoldable pub turned_by : Tally → Side → Side → Turn → Step
+unfoldable pub turned_by : Tally → Option Line → Option Line → Turn → Step
 turned_by t x y turn.Over = step_of (pass_of (Has x) (Has y) t) 0 0 Over
 turned_by t x y turn.Alike = step_of (pass_of Sought Sought t) 0 0 Goes
-turned_by t x y turn.First = step_of (pass_of Sought (Has y) (marked t x side.Nothing)) 0 0 Goes
-turned_by t x y turn.Second = step_of (pass_of (Has x) Sought (marked t side.Nothing y)) 0 0 Goes
+turned_by t x y turn.First = step_of (pass_of Sought (Has y) (marked t x None)) 0 0 Goes
+turned_by t x y turn.Second = step_of (pass_of (Has x) Sought (marked t None y)) 0 0 Goes
 turned_by t x y turn.Both = step_of (pass_of Sought Sought (marked t x y)) 0 0 Goes
 
 -- by what is held of each log: the first log's line is sought first

@@ -6,13 +6,13 @@ ghost use Rattle.log_passes.specs.Judging.{judged_as, judged_in};
 
 use crate::taking;
 use crate::taking::Taken;
-use log_parts::{Judged, Last};
+use log_parts::Judged;
 
 // The last frame and cycle numbers, and the number of the next line, the first being 1.
 #[derive(Clone, Copy)]
 pub struct Judging {
-    pub frames: Last,
-    pub cycles: Last,
+    pub frames: Option<u64>,
+    pub cycles: Option<u64>,
     pub place: u64,
 }
 
@@ -38,22 +38,19 @@ fn look_at(judging: Judging, look: Look) -> Judgement
     Judgement { judging, look }
 }
 
-fn judged_as(judging: Judging, used: usize, n: usize, judged: Judged) -> Judgement
+fn judged_as(judging: Judging, used: usize, n: usize, judged: Option<Judged>) -> Judgement
     ensures { result ≡ judged_as judging used n judged }
 {
     match judged {
-        Judged::Good(_line, frames, cycles) => {
-            let place = judging.place;
-            Judgement {
-                judging: Judging {
-                    frames,
-                    cycles,
-                    place: answers::next_long_count(place),
-                },
-                look: Look::Goes(used),
-            }
-        }
-        Judged::Strange => look_at(judging, Look::Strange(n)),
+        Some(good) => Judgement {
+            judging: Judging {
+                frames: good.frames,
+                cycles: good.cycles,
+                place: answers::next_long_count(judging.place),
+            },
+            look: Look::Goes(used),
+        },
+        None => look_at(judging, Look::Strange(n)),
     }
 }
 
@@ -61,9 +58,7 @@ fn judged_as(judging: Judging, used: usize, n: usize, judged: Judged) -> Judgeme
 fn judge_text(judging: Judging, used: usize, n: usize, text: &[u8]) -> Judgement
     ensures { result ≡ judged_as judging used n (judged_text judging.frames judging.cycles text.now) }
 {
-    let frames = judging.frames;
-    let cycles = judging.cycles;
-    let judged = log_parts::judge(frames, cycles, text);
+    let judged = log_parts::judge(judging.frames, judging.cycles, text);
     judged_as(judging, used, n, judged)
 }
 
@@ -71,8 +66,7 @@ fn judge_text(judging: Judging, used: usize, n: usize, text: &[u8]) -> Judgement
 pub fn judge_next(judging: Judging, bytes: &[u8], ended: bool) -> Judgement
     ensures { result ≡ judged_in judging bytes.now (taken_in bytes.now ended) }
 {
-    let taken = taking::line_of(bytes, ended);
-    match taken {
+    match taking::line_of(bytes, ended) {
         Taken::Text(n, used) => judge_text(judging, used, n, &bytes[..n]),
         Taken::Nothing => look_at(judging, Look::Over),
         Taken::Wants => look_at(judging, Look::Wants),

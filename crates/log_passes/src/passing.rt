@@ -1,22 +1,21 @@
 // Two logs by one sort of lines: the lesser number goes first, and lines of one number are held against each other. Lines without numbers of their own go pair by pair.
 ghost use Rattle.std.specs.Prelude.{◌≡◌, length, ◌≤◌, ◌+◌};
 ghost use Rattle.log_lines.specs.Steps.{Put};
-ghost use Rattle.log_parts.specs.Sorts.{sort_of, is_of, rank, number_of};
+ghost use Rattle.log_parts.specs.Sorts.{sort_of, is_of, number_of};
 ghost use Rattle.log_parts.specs.Named.{line_in};
-ghost use Rattle.log_parts.specs.Merge.{or_else};
 ghost use Rattle.log_passes.specs.Taking.{taken_in};
 ghost use Rattle.log_passes.specs.Passing.{front_at, side_text, turn_at, sought_line, sought_read, sought_in, marked, first_sought, second_sought, turned_by, unbegun, stepped};
 
 use crate::taking;
 use crate::taking::Taken;
 use log_lines::Line;
-use log_parts::{First, Front, Side, Sort, Tally, Turn};
+use log_parts::{Difference, Sort, Tally, Turn};
 
-// The next line of the sort in one log is still sought, or this stands there.
+// The next line of the sort in one log is still sought, or this stands there: a line, or nothing more. (An Option of an Option would not say which of the two is missing.)
 #[derive(Clone, Copy)]
 pub enum Held {
     Sought,
-    Has(Side),
+    Has(Option<Line>),
 }
 
 #[derive(Clone, Copy)]
@@ -56,37 +55,25 @@ pub struct Step {
     pub need: Need,
 }
 
-fn rank_of(line: Line) -> u8
-    ensures { result ≡ rank (sort_of line) }
+fn sort_of(line: Line) -> Sort
+    ensures { result ≡ sort_of line }
 {
     match line {
-        Line::Replay(_rate, _ceiling) => 0,
-        Line::Frame(_n, _word) => 1,
-        Line::Cycle(_n, _verdict) => 2,
-        Line::Refused(_event, _number) => 3,
-        Line::End(_frames, _cycles) => 4,
-        Line::BadHeader => 4,
-        Line::BadEvent(_event) => 4,
-        Line::BadTotals => 4,
-    }
-}
-
-fn sort_rank(sort: Sort) -> u8
-    ensures { result ≡ rank sort }
-{
-    match sort {
-        Sort::Headers => 0,
-        Sort::Frames => 1,
-        Sort::Cycles => 2,
-        Sort::Refusals => 3,
-        Sort::Closings => 4,
+        Line::Replay(_rate, _ceiling) => Sort::Headers,
+        Line::Frame(_n, _word) => Sort::Frames,
+        Line::Cycle(_n, _verdict) => Sort::Cycles,
+        Line::Refused(_event, _number) => Sort::Refusals,
+        Line::End(_frames, _cycles) => Sort::Closings,
+        Line::BadHeader => Sort::Closings,
+        Line::BadEvent(_event) => Sort::Closings,
+        Line::BadTotals => Sort::Closings,
     }
 }
 
 fn is_of(sort: Sort, line: Line) -> bool
     ensures { result ≡ is_of sort line }
 {
-    sort_rank(sort) == rank_of(line)
+    sort == sort_of(line)
 }
 
 fn number_of(line: Line) -> u64
@@ -118,8 +105,7 @@ fn sought_line(sort: Sort, used: usize, line: Line) -> Found
 fn sought_text(sort: Sort, used: usize, text: &[u8]) -> Found
     ensures { result ≡ sought_read sort used (line_in text.now) }
 {
-    let read = log_lines::read_line(text);
-    match read {
+    match log_lines::read_line(text) {
         Some(line) => sought_line(sort, used, line),
         None => Found::Strange,
     }
@@ -128,8 +114,7 @@ fn sought_text(sort: Sort, used: usize, text: &[u8]) -> Found
 fn seek(sort: Sort, bytes: &[u8], ended: bool) -> Found
     ensures { result ≡ sought_in sort bytes.now (taken_in bytes.now ended) }
 {
-    let taken = taking::line_of(bytes, ended);
-    match taken {
+    match taking::line_of(bytes, ended) {
         Taken::Text(n, used) => sought_text(sort, used, &bytes[..n]),
         Taken::Nothing => Found::Nothing,
         Taken::Wants => Found::Wants,
@@ -139,55 +124,43 @@ fn seek(sort: Sort, bytes: &[u8], ended: bool) -> Found
 
 // ---- both logs: which line goes first
 
-fn front_at(side: Side) -> Front
-    ensures { result ≡ front_at side }
+fn front_at(line: Option<Line>) -> Option<u64>
+    ensures { result ≡ front_at line }
 {
-    match side {
-        Side::Nothing => Front::Nothing,
-        Side::There(line) => Front::At(number_of(line)),
-    }
+    line.map(number_of)
 }
 
-fn put_side(out: &mut [u8], side: Side) -> usize
+fn put_side(out: &mut [u8], line: Option<Line>) -> usize
     requires { 75 ≤ length out.old }
-    ensures { Put out.old 0 (side_text side) out.new result }
+    ensures { Put out.old 0 (side_text line) out.new result }
 {
-    match side {
-        Side::Nothing => 0,
-        Side::There(line) => log_lines::put_line(out, line),
+    match line {
+        None => 0,
+        Some(line) => log_lines::put_line(out, line),
     }
 }
 
-fn turn_at(first: Side, second: Side) -> Turn
+fn turn_at(first: Option<Line>, second: Option<Line>) -> Turn
     ensures { result ≡ turn_at first second }
 {
     let mut text = [0u8; 75];
     let mut other = [0u8; 75];
     let m = put_side(&mut text, first);
     let n = put_side(&mut other, second);
-    let f = front_at(first);
-    let s = front_at(second);
-    log_parts::turn_of(f, &text[..m], s, &other[..n])
+    log_parts::turn_of(front_at(first), &text[..m], front_at(second), &other[..n])
 }
 
 // The first difference stays.
-fn or_else(first: First, later: First) -> First
-    ensures { result ≡ or_else first later }
-{
-    match first {
-        First::Alike => later,
-        First::Differ(_x, _y) => first,
-    }
-}
-
-fn mark(tally: Tally, x: Side, y: Side) -> Tally
+fn mark(tally: Tally, x: Option<Line>, y: Option<Line>) -> Tally
     ensures { result ≡ marked tally x y }
 {
-    let count = tally.count;
-    let first = tally.first;
+    let difference = Difference {
+        first: x,
+        second: y,
+    };
     Tally {
-        count: answers::next_long_count(count),
-        first: or_else(first, First::Differ(x, y)),
+        count: answers::next_long_count(tally.count),
+        first: tally.first.or(Some(difference)),
     }
 }
 
@@ -221,18 +194,13 @@ fn first_sought(pass: Pass, found: Found) -> Step
     let tally = pass.tally;
     match found {
         Found::Here(line, n) => step_of(
-            pass_of(Held::Has(Side::There(line)), second, tally),
+            pass_of(Held::Has(Some(line)), second, tally),
             n,
             0,
             Need::Goes,
         ),
         Found::Other(n) => step_of(pass, n, 0, Need::Goes),
-        Found::Nothing => step_of(
-            pass_of(Held::Has(Side::Nothing), second, tally),
-            0,
-            0,
-            Need::Goes,
-        ),
+        Found::Nothing => step_of(pass_of(Held::Has(None), second, tally), 0, 0, Need::Goes),
         Found::Wants => step_of(pass, 0, 0, Need::WantsFirst),
         Found::Strange => step_of(pass, 0, 0, Need::Strange),
     }
@@ -245,37 +213,32 @@ fn second_sought(pass: Pass, found: Found) -> Step
     let tally = pass.tally;
     match found {
         Found::Here(line, n) => step_of(
-            pass_of(first, Held::Has(Side::There(line)), tally),
+            pass_of(first, Held::Has(Some(line)), tally),
             0,
             n,
             Need::Goes,
         ),
         Found::Other(n) => step_of(pass, 0, n, Need::Goes),
-        Found::Nothing => step_of(
-            pass_of(first, Held::Has(Side::Nothing), tally),
-            0,
-            0,
-            Need::Goes,
-        ),
+        Found::Nothing => step_of(pass_of(first, Held::Has(None), tally), 0, 0, Need::Goes),
         Found::Wants => step_of(pass, 0, 0, Need::WantsSecond),
         Found::Strange => step_of(pass, 0, 0, Need::Strange),
     }
 }
 
-fn turned_by(tally: Tally, x: Side, y: Side, turn: Turn) -> Step
+fn turned_by(tally: Tally, x: Option<Line>, y: Option<Line>, turn: Turn) -> Step
     ensures { result ≡ turned_by tally x y turn }
 {
     match turn {
         Turn::Over => step_of(pass_of(Held::Has(x), Held::Has(y), tally), 0, 0, Need::Over),
         Turn::Alike => step_of(pass_of(Held::Sought, Held::Sought, tally), 0, 0, Need::Goes),
         Turn::First => step_of(
-            pass_of(Held::Sought, Held::Has(y), mark(tally, x, Side::Nothing)),
+            pass_of(Held::Sought, Held::Has(y), mark(tally, x, None)),
             0,
             0,
             Need::Goes,
         ),
         Turn::Second => step_of(
-            pass_of(Held::Has(x), Held::Sought, mark(tally, Side::Nothing, y)),
+            pass_of(Held::Has(x), Held::Sought, mark(tally, None, y)),
             0,
             0,
             Need::Goes,
@@ -298,7 +261,7 @@ pub fn fresh() -> Pass
         Held::Sought,
         Tally {
             count: 0,
-            first: First::Alike,
+            first: None,
         },
     )
 }
@@ -314,16 +277,9 @@ pub fn pass_next(
 ) -> Step
     ensures { result ≡ stepped sort pass first.now first_ended second.now second_ended }
 {
-    let mine = pass.first;
-    let other = pass.second;
-    match mine {
-        Held::Sought => first_sought(pass, seek(sort, first, first_ended)),
-        Held::Has(x) => match other {
-            Held::Sought => second_sought(pass, seek(sort, second, second_ended)),
-            Held::Has(y) => {
-                let turn = turn_at(x, y);
-                turned_by(pass.tally, x, y, turn)
-            }
-        },
+    match (pass.first, pass.second) {
+        (Held::Sought, _) => first_sought(pass, seek(sort, first, first_ended)),
+        (Held::Has(_), Held::Sought) => second_sought(pass, seek(sort, second, second_ended)),
+        (Held::Has(x), Held::Has(y)) => turned_by(pass.tally, x, y, turn_at(x, y)),
     }
 }

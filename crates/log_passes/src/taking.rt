@@ -17,8 +17,7 @@ pub enum Taken {
 pub fn line_of(bytes: &[u8], ended: bool) -> Taken
     ensures { (result ≡ taken_in bytes.now ended) × Inside bytes.now result }
 {
-    let piece = log_text::cut(bytes, ended);
-    match piece {
+    match log_text::cut(bytes, ended) {
         Piece::Line(n) => Taken::Text(n, n + 1),
         Piece::Last(n) => Taken::Text(n, n),
         Piece::Long => Taken::Long,

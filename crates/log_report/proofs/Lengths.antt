@@ -6,38 +6,38 @@ use mathlib.Core.List.{List, [], ◌∷◌}
 use native.Mathlib.Omega.{arith}
 use lib.Dec.{leb}
 use lib.ListN.{length, length-append}
+use Rattle.std.specs.Option.{is_some}
 use lib.Seq.{sets}
-use Rattle.answers.specs.Pick.{pick, pick_true, pick_false, pick_all}
+use mathlib.Core.Bool.{Bool, true, false, not}
+use Rattle.answers.specs.Pick.{both, pick, pick_true, pick_false, pick_all}
 use borrow.Author.Tests.{le-leb, lt-leb}
+use Rattle.log_lines.specs.declared.Line.{Line}
 use Rattle.log_lines.specs.Text.{ascii}
 use Rattle.log_lines.specs.Steps.{Put}
 use Rattle.log_lines.proofs.Answers.{line_short}
 use Rattle.log_lines.proofs.Laws.{decimal_short}
 use Rattle.log_parts.specs.Named.{line_in}
-use Rattle.log_parts.specs.declared.Side.{Side}
-use Rattle.log_parts.specs.declared.Side.TheVariants.{Nothing, There}
-use Rattle.log_parts.specs.declared.First.{First}
-use Rattle.log_parts.specs.declared.First.TheVariants.{Alike, Differ}
+use Rattle.log_parts.specs.declared.Difference.{Difference}
 use Rattle.log_parts.specs.declared.Report.{Report}
-use Rattle.log_report.specs.Texts.{side_words, marked_text, differ_text, section_text, sections_text, all_alike, place_text, order_text, why_by, why_text, where_text}
+use Rattle.log_report.specs.Texts.{alike, side_words, marked_text, differ_text, section_text, sections_text, all_alike, place_text, order_text, why_by, why_text, where_text}
 
-pub side_short : (s : Side) → length (side_words s) ≤ 75
+pub side_short : (s : Option Line) → length (side_words s) ≤ 75
 unfolding side_words
-side_short Nothing = omega arith
-side_short (There l) = line_short l
+side_short None = omega arith
+side_short (Some l) = line_short l
 
-pub marked_short : (mark : List ℕ) (s : Side) → length (marked_text mark s) ≤ length mark + 75
+pub marked_short : (mark : List ℕ) (s : Option Line) → length (marked_text mark s) ≤ length mark + 75
 unfolding marked_text
 marked_short mark s = omega (arith, length-append mark (side_words s), side_short s)
 
-pub differ_short : (x y : Side) → length (differ_text x y) ≤ 157
+pub differ_short : (x y : Option Line) → length (differ_text x y) ≤ 157
 unfolding differ_text
 differ_short x y = simp length-append (omega (arith, marked_short (10 ∷ ascii "< ") x, marked_short (10 ∷ ascii "> ") y))
 
-pub section_short : (heading : List ℕ) (f : First) → length (section_text heading f) ≤ length heading + 157
+pub section_short : (heading : List ℕ) (f : Option Difference) → length (section_text heading f) ≤ length heading + 157
 unfolding section_text
-section_short heading Alike = omega arith
-section_short heading (Differ x y) = omega (arith, length-append heading (differ_text x y), differ_short x y)
+section_short heading None = omega arith
+section_short heading (Some d) = omega (arith, length-append heading (differ_text d.first d.second), differ_short d.first d.second)
 
 pub sections_short : (r : Report) → length (sections_text r) ≤ 815
 unfolding sections_text
@@ -62,6 +62,28 @@ why_short t = why_by_lem (line_in t)
 pub where_short : (name : List ℕ) (place : ℕ) → length (where_text name place) ≤ length name + 39
 unfolding where_text
 where_short name place = simp length-append (omega (arith, decimal_short place))
+
+pub alike_none : (f : Option Difference) (b : Bool) → is_some f ≡ not b → b ≡ alike f
+unfolding alike
+alike_none None true e = refl
+alike_none None false e = e
+alike_none (Some d) true e = e
+alike_none (Some d) false e = refl
+
+-- a test behind others
+pub both_yes : {a b v x y : Bool} → v ≡ b → b ≡ y → a ≡ x → a ≡ true → v ≡ both x y
+both_yes p q r t = p ∙ q ∙ sym (pick_true _ _ _ (sym r ∙ t))
+
+pub both_no : {a v x : Bool} (y : Bool) → v ≡ a → a ≡ x → a ≡ false → v ≡ both x y
+both_no y p r f = p ∙ f ∙ sym (pick_false _ _ _ (sym r ∙ f))
+
+both_assoc : (a b c : Bool) → both (both a b) c ≡ both a (both b c)
+unfolding pick
+both_assoc true b c = refl
+both_assoc false b c = refl
+
+pub both_five : (a b c d e : Bool) → both (both (both (both a b) c) d) e ≡ both a (both b (both c (both d e)))
+both_five a b c d e = simp both_assoc
 
 -- nothing is put
 pub put_nothing : (out : List ℕ) (at : ℕ) → Put out at [] out at

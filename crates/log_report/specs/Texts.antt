@@ -1,16 +1,14 @@
 -- Request b: "names the first differing line of each sort .. with both texts, then the number of differing frames and cycles by number .. Equal logs give the single line `same`".
 use Rattle.std.specs.Prelude.{ℕ, Bool, true, false, List, [], ◌∷◌, ◌++◌, leb, length, take, Option, Some, None}
 use Rattle.answers.specs.Pick.{pick, both}
+use Rattle.log_lines.specs.declared.Line.{Line}
 use Rattle.log_lines.specs.Text.{ascii, decimal}
 use Rattle.log_lines.specs.Lines.{text_of}
 use Rattle.log_text.specs.Text.{newline}
 use Rattle.log_text.specs.Cut.{longest}
 use Rattle.log_parts.specs.Named.{line_in}
 use Rattle.log_parts.specs.Parts as parts
-use Rattle.log_parts.specs.declared.Side.{Side}
-use Rattle.log_parts.specs.declared.Side.TheVariants.{Nothing, There}
-use Rattle.log_parts.specs.declared.First.{First}
-use Rattle.log_parts.specs.declared.First.TheVariants.{Alike, Differ}
+use Rattle.log_parts.specs.declared.Difference.{Difference}
 use Rattle.log_parts.specs.declared.Report.{Report}
 
 abbrev pub ended : List ℕ
@@ -18,19 +16,19 @@ ended = newline ∷ []
 
 -- ---- each sort that differs: a heading, the first log's line and the second's
 
-unfoldable pub side_words : Side → List ℕ
-side_words Nothing = ascii "nothing"
-side_words (There l) = text_of l
+unfoldable pub side_words : Option Line → List ℕ
+side_words None = ascii "nothing"
+side_words (Some l) = text_of l
 
-unfoldable pub marked_text : List ℕ → Side → List ℕ
+unfoldable pub marked_text : List ℕ → Option Line → List ℕ
 marked_text mark s = mark ++ side_words s
 
-unfoldable pub differ_text : Side → Side → List ℕ
+unfoldable pub differ_text : Option Line → Option Line → List ℕ
 differ_text x y = marked_text (newline ∷ ascii "< ") x ++ marked_text (newline ∷ ascii "> ") y ++ ended
 
-unfoldable pub section_text : List ℕ → First → List ℕ
-section_text heading Alike = []
-section_text heading (Differ x y) = heading ++ differ_text x y
+unfoldable pub section_text : List ℕ → Option Difference → List ℕ
+section_text heading None = []
+section_text heading (Some d) = heading ++ differ_text d.first d.second
 
 unfoldable pub sections_text : Report → List ℕ
 sections_text r =
@@ -42,9 +40,9 @@ sections_text r =
 
 -- ---- where no sort differs, the first line in which the logs are not the same
 
-unfoldable pub alike : First → Bool
-alike Alike = true
-alike (Differ x y) = false
+unfoldable pub alike : Option Difference → Bool
+alike None = true
+alike (Some d) = false
 
 unfoldable pub all_alike : Report → Bool
 all_alike r = both (alike r.headers) (both (alike r.frames) (both (alike r.cycles) (both (alike r.refusals) (alike r.closings))))

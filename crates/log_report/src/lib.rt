@@ -4,11 +4,11 @@
 ghost use Rattle.std.specs.Prelude.{◌≡◌, ◌++◌, ◌+◌, ◌≤◌, length};
 ghost use Rattle.log_lines.specs.Lines.{text_of};
 ghost use Rattle.log_lines.specs.Steps.{Put};
-ghost use Rattle.log_report.specs.Texts.{side_words, marked_text, differ_text, section_text, sections_text, alike, all_alike, order_text, counts_text, report_text, why_text, shown_text, where_text, strange_text, place_text};
+ghost use Rattle.log_report.specs.Texts.{side_words, marked_text, differ_text, section_text, sections_text, all_alike, order_text, counts_text, report_text, why_text, shown_text, where_text, strange_text, place_text};
 ghost use Rattle.log_report.specs.Calls.{reported, reported_out, refused_as, refused_out};
 
 use log_lines::Line;
-use log_parts::{First, Report, Side};
+use log_parts::{Difference, Report};
 
 // ---- the two lines that differ
 
@@ -21,18 +21,18 @@ fn put_line(out: &mut [u8], at: usize, line: Line) -> usize
     log_lines::put(out, at, &text[..n])
 }
 
-fn put_side(out: &mut [u8], at: usize, side: Side) -> usize
+fn put_side(out: &mut [u8], at: usize, side: Option<Line>) -> usize
     requires { at + 75 ≤ length out.old }
     ensures { Put out.old at (side_words side) out.new result }
 {
     match side {
-        Side::Nothing => log_lines::put(out, at, b"nothing"),
-        Side::There(line) => put_line(out, at, line),
+        None => log_lines::put(out, at, b"nothing"),
+        Some(line) => put_line(out, at, line),
     }
 }
 
 // On a new line, behind its mark.
-fn put_marked(out: &mut [u8], at: usize, mark: &[u8], side: Side) -> usize
+fn put_marked(out: &mut [u8], at: usize, mark: &[u8], side: Option<Line>) -> usize
     requires { at + length mark.now + 75 ≤ length out.old }
     ensures { Put out.old at (marked_text mark.now side) out.new result }
 {
@@ -40,7 +40,7 @@ fn put_marked(out: &mut [u8], at: usize, mark: &[u8], side: Side) -> usize
     put_side(out, next, side)
 }
 
-fn put_pair(out: &mut [u8], at: usize, x: Side, y: Side) -> usize
+fn put_pair(out: &mut [u8], at: usize, x: Option<Line>, y: Option<Line>) -> usize
     requires { at + 157 ≤ length out.old }
     ensures { Put out.old at (differ_text x y) out.new result }
 {
@@ -50,15 +50,15 @@ fn put_pair(out: &mut [u8], at: usize, x: Side, y: Side) -> usize
 }
 
 // A heading and two lines, where the sort differs.
-fn put_section(out: &mut [u8], at: usize, heading: &[u8], first: First) -> usize
+fn put_section(out: &mut [u8], at: usize, heading: &[u8], first: Option<Difference>) -> usize
     requires { at + length heading.now + 157 ≤ length out.old }
     ensures { Put out.old at (section_text heading.now first) out.new result }
 {
     match first {
-        First::Alike => at,
-        First::Differ(x, y) => {
+        None => at,
+        Some(difference) => {
             let next = log_lines::put(out, at, heading);
-            put_pair(out, next, x, y)
+            put_pair(out, next, difference.first, difference.second)
         }
     }
 }
@@ -67,50 +67,23 @@ fn put_sections(out: &mut [u8], report: Report) -> usize
     requires { 815 ≤ length out.old }
     ensures { Put out.old 0 (sections_text report) out.new result }
 {
-    let headers = report.headers;
-    let frames = report.frames;
-    let cycles = report.cycles;
-    let refusals = report.refusals;
-    let closings = report.closings;
-    let a = put_section(out, 0, b"header", headers);
-    let b = put_section(out, a, b"frame", frames);
-    let c = put_section(out, b, b"cycle", cycles);
-    let d = put_section(out, c, b"refusal", refusals);
-    put_section(out, d, b"closing", closings)
+    let a = put_section(out, 0, b"header", report.headers);
+    let b = put_section(out, a, b"frame", report.frames);
+    let c = put_section(out, b, b"cycle", report.cycles);
+    let d = put_section(out, c, b"refusal", report.refusals);
+    put_section(out, d, b"closing", report.closings)
 }
 
 // ---- the order, and the counts
 
-fn is_alike(first: First) -> bool
-    ensures { result ≡ alike first }
-{
-    match first {
-        First::Alike => true,
-        First::Differ(_x, _y) => false,
-    }
-}
-
 fn all_alike(report: Report) -> bool
     ensures { result ≡ all_alike report }
 {
-    let headers = report.headers;
-    if !is_alike(headers) {
-        return false;
-    }
-    let frames = report.frames;
-    if !is_alike(frames) {
-        return false;
-    }
-    let cycles = report.cycles;
-    if !is_alike(cycles) {
-        return false;
-    }
-    let refusals = report.refusals;
-    if !is_alike(refusals) {
-        return false;
-    }
-    let closings = report.closings;
-    is_alike(closings)
+    report.headers.is_none()
+        && report.frames.is_none()
+        && report.cycles.is_none()
+        && report.refusals.is_none()
+        && report.closings.is_none()
 }
 
 fn put_place(out: &mut [u8], at: usize, place: u64) -> usize
@@ -167,8 +140,7 @@ fn put_why(out: &mut [u8], at: usize, text: &[u8]) -> usize
     requires { at + 22 ≤ length out.old }
     ensures { Put out.old at (why_text text.now) out.new result }
 {
-    let read = log_lines::read_line(text);
-    match read {
+    match log_lines::read_line(text) {
         Some(_line) => log_lines::put(out, at, b"number does not rise: "),
         None => at,
     }

@@ -1,4 +1,5 @@
 -- Request k: what is said is the text of the verdict, though of a line longer than any of a log only the bytes at hand are held.
+use Rattle.std.specs.Prelude.{Option}
 use Prim.Native.Nat.{ℕ, ◌<◌}
 use mathlib.Core.Path.{◌≡◌, refl, sym, ap, subst, ◌∙◌}
 use mathlib.Core.Bool.{Bool}
@@ -9,6 +10,7 @@ use lib.ListN.{length, take, length-append}
 use lib.Seq.{length-take-le, take-take, take-length, take-append-le}
 use borrow.Author.Tests.{lt-leb, ltb-true}
 use Rattle.answers.specs.Pick.{pick_false, pick_case}
+use Rattle.log_lines.specs.declared.Line.{Line}
 use Rattle.log_lines.specs.Text.{ascii}
 use Rattle.log_text.specs.Text.{lines_of}
 use Rattle.log_text.specs.Apart.{There, Same, At, front}
@@ -16,7 +18,6 @@ use Rattle.log_text.specs.Cut.{longest, first_newline, cut_at, cut_of, Behind, T
 use Rattle.log_text.specs.declared.Piece.{Piece}
 use Rattle.log_text.specs.declared.Piece.TheVariants as piece
 use Rattle.log_text.proofs.Newlines.{cut_tells_lem, long_starts, newline_within}
-use Rattle.log_hold.specs.declared.Due.{Due}
 use Rattle.log_hold.specs.declared.Verdict.TheVariants as verdict
 use Rattle.log_says.specs.Says.{ended, place_text, shown_text, stands_text, should_text, apart_text}
 use Rattle.log_says.specs.Calls.{due_side, piece_side, side_at, said_text}
@@ -73,7 +74,7 @@ module _ (hand more : List ℕ) (e : Bool) (b : Behind e more) where
   side_by piece.Over c w = ap (λ (ls : List (List ℕ)). stands_text (front ls)) (sym (told piece.Over c))
 
   -- where the next line of the log is known, what is said of a wrong one is the text of the verdict that names it
-  pub wrong_told : (k : ℕ) (d : Due) → (cut_of hand e ≡ piece.Wants → ⊥) → said_text k (verdict.Wrong d) hand e ≡ apart_text (At k (front (lines_of (hand ++ more))) (due_side d))
+  pub wrong_told : (k : ℕ) (d : Option Line) → (cut_of hand e ≡ piece.Wants → ⊥) → said_text k (verdict.Wrong d) hand e ≡ apart_text (At k (front (lines_of (hand ++ more))) (due_side d))
   unfolding said_text apart_text side_at
   wrong_told k d w = ap (λ (t : List ℕ). place_text k ++ t ++ should_text (due_side d)) (side_by (cut_of hand e) refl w)
 

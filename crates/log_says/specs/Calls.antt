@@ -2,21 +2,20 @@
 use Rattle.std.specs.Prelude.{ℕ, Bool, List, [], leb, length, take, Option, Some, None}
 use Rattle.std.proofs.lemmas.List.Edits.{sets}
 use Rattle.answers.specs.Pick.{pick}
+use Rattle.log_lines.specs.declared.Line.{Line}
 use Rattle.log_lines.specs.Lines.{text_of}
 use Rattle.log_text.specs.Apart.{Side, Nothing, There, Same, At}
 use Rattle.log_text.specs.Cut.{cut_of}
 use Rattle.log_text.specs.declared.Piece.{Piece}
 use Rattle.log_text.specs.declared.Piece.TheVariants as piece
-use Rattle.log_hold.specs.declared.Due.{Due}
-use Rattle.log_hold.specs.declared.Due.TheVariants as due
 use Rattle.log_hold.specs.declared.Verdict.{Verdict}
 use Rattle.log_hold.specs.declared.Verdict.TheVariants as verdict
 use Rattle.log_says.specs.Says.{apart_text}
 
 -- what should stand
-abbrev pub due_side : Due → Side
-due_side (due.Line l) = There (text_of l)
-due_side due.Nothing = Nothing
+abbrev pub due_side : Option Line → Side
+due_side (Some l) = There (text_of l)
+due_side None = Nothing
 
 -- what stands at the front of the bytes at hand; of a line longer than any of a log, that are all of them
 abbrev pub piece_side : List ℕ → Piece → Side

@@ -8,7 +8,7 @@ ghost use Rattle.log_text.specs.Apart.{There};
 ghost use Rattle.log_says.specs.Says.{place_text, shown_text, stands_text, should_text};
 ghost use Rattle.log_says.specs.Calls.{due_side, side_at, said_text, said, said_out};
 
-use log_hold::{Due, Verdict};
+use log_hold::Verdict;
 use log_lines::Line;
 use log_text::Piece;
 
@@ -73,17 +73,17 @@ fn put_right(out: &mut [u8], at: usize, line: Line) -> usize
     log_lines::put(out, end, b"\n")
 }
 
-fn put_should(out: &mut [u8], at: usize, due: Due) -> usize
+fn put_should(out: &mut [u8], at: usize, due: Option<Line>) -> usize
     requires { at + 90 ≤ length out.old }
     ensures { Put out.old at (should_text (due_side due)) out.new result }
 {
     match due {
-        Due::Line(line) => put_right(out, at, line),
-        Due::Nothing => log_lines::put(out, at, b"should stand nothing\n"),
+        Some(line) => put_right(out, at, line),
+        None => log_lines::put(out, at, b"should stand nothing\n"),
     }
 }
 
-fn put_wrong(out: &mut [u8], line: u64, due: Due, hand: &[u8], ended: bool) -> usize
+fn put_wrong(out: &mut [u8], line: u64, due: Option<Line>, hand: &[u8], ended: bool) -> usize
     requires { 256 ≤ length out.old }
     ensures { Put out.old 0 (place_text line ++ stands_text (side_at hand.now ended) ++ should_text (due_side due)) out.new result }
 {

@@ -3,33 +3,21 @@ use Prim.Native.Nat.{ℕ, suc, ◌+◌, ◌≤◌, ◌<◌}
 use mathlib.Core.Path.{◌≡◌, refl, sym, ap, subst, ◌∙◌}
 use mathlib.Core.Bool.{Bool, true, false}
 use mathlib.Core.List.{List, [], ◌∷◌, ◌++◌, append_assoc}
-use native.Mathlib.Numerals.{add-one}
 use native.Mathlib.Omega.{arith}
 use lib.Dec.{ltb, eqb}
-use lib.ListN.{length, take, drop, get_or, length-append, take-append-drop, drop_of_length-le}
-use lib.Seq.{drop-cons, length-take-le}
-use borrow.Author.Tests.{eqb-true, eqb-false, eq-eqb, ne_eqb, ltb-true, ltb-false}
+use lib.ListN.{length, take, drop, length-append, take-append-drop, drop_of_length-le}
+use lib.Seq.{length-take-le}
+use borrow.Author.Tests.{eqb-true, eqb-false, ltb-true, ltb-false}
 use Rattle.answers.specs.Pick.{pick, pick_true, pick_false, pick_case}
+use Rattle.std.specs.Prelude.{Some, None, cond}
+use Rattle.std.specs.List.{position, position_or_len}
+use Rattle.std.specs.Option.{unwrap_or}
+use Rattle.std.proofs.lemmas.List.Recursion.{is_position_or_len}
 use Rattle.log_text.specs.Text.{newline, empty, plain, split_into, lines_of}
 use Rattle.log_text.specs.Cut.{longest, first_newline, cut_at, cut_of, TooLong, Behind, Tells, Walk, line, last, over}
 use Rattle.log_text.specs.declared.Piece.{Piece}
 use Rattle.log_text.specs.declared.Piece.TheVariants.{Line, Last, Wants, Over}
 use Rattle.log_text.proofs.Text.{plain_on, append_nothing}
-
--- ---- the first newline, from place i on
-
-module _ (bytes : List ℕ) (i : ℕ) (h : i < length bytes) where
-  pub newline_here : get_or bytes i 0 ≡ newline → first_newline (drop i bytes) ≡ 0
-  unfolding first_newline
-  newline_here e = rw (drop-cons bytes i 0) (pick_true _ _ _ (eq-eqb (get_or bytes i 0) newline e))
-
-  pub newline_later : (get_or bytes i 0 ≡ newline → ⊥) → first_newline (drop i bytes) ≡ first_newline (drop (i + 1) bytes) + 1
-  unfolding first_newline
-  newline_later e = rw (drop-cons bytes i 0, add-one (first_newline (drop (i + 1) bytes)), add-one i) (pick_false _ _ _ (ne_eqb (get_or bytes i 0) newline e))
-
-pub past_all : (bytes : List ℕ) (i : ℕ) → length bytes ≤ i → first_newline (drop i bytes) ≡ 0
-unfolding first_newline
-past_all bytes i h = rw (drop_of_length-le bytes h)
 
 -- ---- before the first newline, and behind it
 
@@ -37,6 +25,23 @@ pub newline_within : (bytes : List ℕ) → first_newline bytes ≤ length bytes
 unfolding first_newline
 newline_within [] = omega arith
 newline_within (c ∷ t) = pick_case (λ (n : ℕ). n ≤ suc (length t)) (eqb c newline) _ _ (λ e. omega arith) (λ e. omega (arith, newline_within t))
+
+-- std's search for it
+search_step : (b : Bool) (n : ℕ) → pick b 0 (suc n) ≡ cond b 0 (1 + n)
+unfolding pick
+search_step true n = refl
+search_step false n = omega arith
+
+newline_place : (bytes : List ℕ) → first_newline bytes ≡ position_or_len (λ b. eqb b newline) bytes
+unfolding first_newline
+newline_place bytes = is_position_or_len first_newline (λ b. eqb b newline) refl (λ c t. search_step (eqb c newline) (first_newline t)) bytes
+
+place_found : (n len : ℕ) → n ≤ len → (b : Bool) → ltb n len ≡ b → unwrap_or (cond b (Some n) None) len ≡ n
+place_found n len h true e = refl
+place_found n len h false e = omega (arith, h, ltb-false n len e)
+
+pub newline_found : (bytes : List ℕ) → unwrap_or (position (λ b. eqb b newline) bytes) (length bytes) ≡ first_newline bytes
+newline_found bytes = rw (← newline_place bytes) (place_found (first_newline bytes) (length bytes) (newline_within bytes) _ refl)
 
 plain_before : (bytes : List ℕ) → plain (take (first_newline bytes) bytes) ≡ true
 unfolding first_newline

@@ -1,7 +1,7 @@
 // A log as a list of lines: whether two are the same, and the next one among the bytes at hand.
 #![tactic(auto)]
 
-ghost use Rattle.std.specs.Prelude.{◌≡◌};
+ghost use Rattle.std.specs.Prelude.{◌≡◌, ◌==◌, position};
 ghost use Rattle.log_text.specs.Cut.{first_newline, cut_of};
 ghost use Rattle.log_text.specs.Text.{same_text};
 
@@ -22,18 +22,17 @@ pub enum Piece {
     Over,
 }
 
+fn newline_in(bytes: &[u8]) -> Option<usize>
+    ensures { result ≡ position (λ byte. byte == 10) bytes.now }
+{
+    bytes.iter().position(|byte| *byte == b'\n')
+}
+
 // The place of the first newline, or the length where there is none.
 fn first_newline(bytes: &[u8]) -> usize
     ensures { result ≡ first_newline bytes.now }
 {
-    let mut i = 0;
-    while i < bytes.len() {
-        if bytes[i] == 10 {
-            return i;
-        }
-        i += 1;
-    }
-    i
+    newline_in(bytes).unwrap_or(bytes.len())
 }
 
 // The next line among the bytes at hand; `ended` if none come behind them.

@@ -5,11 +5,11 @@
 ghost use Rattle.std.specs.Prelude.{◌≡◌, length};
 ghost use Rattle.pipes.specs.Window.{Within};
 
-use log_parts::{First, Report, Sort};
+use log_parts::{Report, Sort, Tally};
 use log_passes::beside::Ask;
 use log_passes::judging::Look;
 use log_passes::passing::Need;
-use parts_walks::inputs::{Logs, Source};
+use parts_walks::inputs::{Log, Logs, Source, Unread};
 use parts_walks::judge::Stand;
 use parts_walks::order::Walk;
 use parts_walks::{inputs, judge, order, sorts};
@@ -17,41 +17,32 @@ use pipes::reason::Reason;
 use pipes::{reason, rooms, told};
 use std::io::Stdout;
 
-// How it ended. Same, Parted: that is told. Strange: a line that is none of a log is told. Unread: a read of log 1 or 2 failed. Unwritten: a write failed. Changed: a log
-// was not the same in two passes.
+// What was told of two logs: that they are the same, or where they part.
 #[derive(Clone, Copy)]
-pub enum Outcome {
+pub enum Told {
     Same,
     Parted,
+}
+
+// Why that was not told. Strange: a line that is none of a log was told instead. Unread: a read failed. Unwritten: a write failed. Changed: a log was not the same in two passes.
+#[derive(Clone, Copy)]
+pub enum Failure {
     Strange,
-    Unread(u8, Reason),
+    Unread(Unread),
     Unwritten(Reason),
     Changed,
 }
 
+fn write(out: Stdout, text: &[u8]) -> Result<(), Failure> {
+    told::write(out, text).map_err(Failure::Unwritten)
+}
+
 // A text that found room is written out.
-fn tell(written: Option<usize>, text: &[u8], out: Stdout, done: Outcome) -> Outcome {
-    match written {
-        None => Outcome::Unwritten(reason::none()),
-        Some(n) => tell_first(n, text, out, done),
-    }
-}
-
-fn tell_first(n: usize, text: &[u8], out: Stdout, done: Outcome) -> Outcome {
-    if text.len() < n {
-        return Outcome::Unwritten(reason::none());
-    }
-    match told::write(out, &text[..n]) {
-        Ok(()) => done,
-        Err(why) => Outcome::Unwritten(why),
-    }
-}
-
-fn tell_same(out: Stdout) -> Outcome {
-    match told::write(out, b"same\n") {
-        Ok(()) => Outcome::Same,
-        Err(why) => Outcome::Unwritten(why),
-    }
+fn tell(written: Option<usize>, text: &[u8], out: Stdout) -> Result<(), Failure> {
+    let none = Failure::Unwritten(reason::none());
+    let n = written.ok_or(none)?;
+    let words = text.get(..n).ok_or(none)?;
+    write(out, words)
 }
 
 // The line at which a log stops being one: its first n bytes are at hand.
@@ -62,80 +53,61 @@ fn tell_strange(
     name: &[u8],
     text: &mut [u8],
     out: Stdout,
-) -> Outcome
+) -> Result<(), Failure>
     requires { (Within stand.window) × (length room.now ≡ 65536) }
 {
     let window = stand.window;
-    let judging = stand.judging;
-    let at = window.at;
-    let end = window.end;
-    if end - at < n {
-        return Outcome::Changed;
-    }
-    let to = at + n;
-    let written = log_report::write_refusal(name, judging.place, &room[at..to], text);
-    tell(written, text, out, Outcome::Strange)
+    let hand = &room[window.at..window.end];
+    let line = hand.get(..n).ok_or(Failure::Changed)?;
+    let written = log_report::write_refusal(name, stand.judging.place, line, text);
+    tell(written, text, out)?;
+    Err(Failure::Strange)
 }
 
-fn heard(log: u8, stand: Stand, room: &[u8], name: &[u8], text: &mut [u8], out: Stdout) -> Outcome
+fn heard(
+    log: Log,
+    stand: Stand,
+    room: &[u8],
+    name: &[u8],
+    text: &mut [u8],
+    out: Stdout,
+) -> Result<(), Failure>
     requires { (Within stand.window) × (length room.now ≡ 65536) }
 {
-    let look = stand.look;
-    let window = stand.window;
-    if let Some(why) = window.failed {
-        return Outcome::Unread(log, why);
+    if let Some(why) = stand.window.failed {
+        return Err(Failure::Unread(Unread { log, why }));
     }
-    match look {
-        Look::Goes(_used) => Outcome::Changed,
-        Look::Wants => Outcome::Changed,
-        Look::Over => Outcome::Same,
+    match stand.look {
+        Look::Goes(_) | Look::Wants => Err(Failure::Changed),
+        Look::Over => Ok(()),
         Look::Strange(n) => tell_strange(stand, n, room, name, text, out),
     }
 }
 
 fn judge_in(
-    log: u8,
+    log: Log,
     source: Source<'_>,
     name: &[u8],
     room: &mut [u8],
     text: &mut [u8],
     out: Stdout,
-) -> Outcome
+) -> Result<(), Failure>
     requires { length room.old ≡ 65536 }
 {
     let stand = judge::all(judge::opening(inputs::begin(source)), source.file, room);
     heard(log, stand, room, name, text, out)
 }
 
-// The log is judged; `Same` where each of its lines is one of a log.
-fn judged(log: u8, source: Source<'_>, name: &[u8], text: &mut [u8], out: Stdout) -> Outcome {
+// The log is judged: is each of its lines one of a log.
+fn judged(
+    log: Log,
+    source: Source<'_>,
+    name: &[u8],
+    text: &mut [u8],
+    out: Stdout,
+) -> Result<(), Failure> {
     let mut room = rooms::large();
     judge_in(log, source, name, &mut room, text, out)
-}
-
-// What both logs come to in a sort: the first difference and how many there are. `amiss`: 0, or why that is not known: which log could not be read, and the `reason`, or CHANGED.
-#[derive(Clone, Copy)]
-struct Counted {
-    first: First,
-    count: u64,
-    amiss: u8,
-    reason: Reason,
-}
-
-const CHANGED: u8 = 3;
-
-// A walk that has ended, and no read of it failed, has come to the ends of both logs.
-fn amiss_at(unread: u8, need: Need) -> u8 {
-    if unread != 0 {
-        return unread;
-    }
-    match need {
-        Need::Goes => CHANGED,
-        Need::WantsFirst => CHANGED,
-        Need::WantsSecond => CHANGED,
-        Need::Over => 0,
-        Need::Strange => CHANGED,
-    }
 }
 
 fn logs_of<'a>(first: Source<'a>, second: Source<'a>) -> Logs<'a> {
@@ -145,176 +117,104 @@ fn logs_of<'a>(first: Source<'a>, second: Source<'a>) -> Logs<'a> {
     }
 }
 
+// A walk that has ended, and no read of it failed, has come to the ends of both logs.
+fn tally_of(walk: sorts::Walk) -> Result<Tally, Failure> {
+    if let Some(unread) = inputs::failed(walk.inputs) {
+        return Err(Failure::Unread(unread));
+    }
+    match walk.need {
+        Need::Over => Ok(walk.pass.tally),
+        Need::Goes | Need::WantsFirst | Need::WantsSecond | Need::Strange => Err(Failure::Changed),
+    }
+}
+
 fn walk_in(
     sort: Sort,
     first: Source<'_>,
     second: Source<'_>,
     mine: &mut [u8],
     other: &mut [u8],
-) -> Counted
+) -> Result<Tally, Failure>
     requires { (length mine.old ≡ 65536) × (length other.old ≡ 65536) }
 {
     let begun = sorts::opening(inputs::begin_both(first, second));
-    let walk = sorts::all(sort, begun, &logs_of(first, second), mine, other);
-    let tally = walk.pass.tally;
-    let difference = tally.first;
-    let need = walk.need;
-    Counted {
-        first: difference,
-        count: tally.count,
-        amiss: amiss_at(inputs::failed(walk.inputs), need),
-        reason: inputs::reason_of(walk.inputs),
-    }
+    tally_of(sorts::all(sort, begun, &logs_of(first, second), mine, other))
 }
 
-fn walk_sort(sort: Sort, first: Source<'_>, second: Source<'_>) -> Counted {
+// What both logs come to in a sort: the first difference, and how many there are.
+fn walk_sort(sort: Sort, first: Source<'_>, second: Source<'_>) -> Result<Tally, Failure> {
     let mut mine = rooms::large();
     let mut other = rooms::large();
     walk_in(sort, first, second, &mut mine, &mut other)
 }
 
-// The first of two that is not 0.
-fn either(a: u8, b: u8) -> u8 {
-    if a != 0 {
-        return a;
-    }
-    b
+// The logs part at that line: both are walked once for each sort.
+fn report_of(place: u64, first: Source<'_>, second: Source<'_>) -> Result<Report, Failure> {
+    let headers = walk_sort(Sort::Headers, first, second)?;
+    let frames = walk_sort(Sort::Frames, first, second)?;
+    let cycles = walk_sort(Sort::Cycles, first, second)?;
+    let refusals = walk_sort(Sort::Refusals, first, second)?;
+    let closings = walk_sort(Sort::Closings, first, second)?;
+    Ok(Report {
+        headers: headers.first,
+        frames: frames.first,
+        cycles: cycles.first,
+        refusals: refusals.first,
+        closings: closings.first,
+        differing_frames: frames.count,
+        differing_cycles: cycles.count,
+        place,
+    })
 }
 
-// Why the first that is amiss is.
-fn reason_either(a: u8, why: Reason, other: Reason) -> Reason {
-    if a != 0 {
-        return why;
+// Whether the two logs are the same, or the line in which they part.
+fn parting_of(walk: Walk) -> Result<Option<u64>, Failure> {
+    if let Some(unread) = inputs::failed(walk.inputs) {
+        return Err(Failure::Unread(unread));
     }
-    other
+    match walk.ask {
+        Ask::Same => Ok(None),
+        Ask::Apart => Ok(Some(walk.place)),
+        Ask::Goes(..) | Ask::WantsFirst | Ask::WantsSecond | Ask::Strange => Err(Failure::Changed),
+    }
 }
 
-// The logs part: both are walked once for each sort.
-fn parted(
-    place: u64,
+fn order_in(
     first: Source<'_>,
     second: Source<'_>,
-    text: &mut [u8],
-    out: Stdout,
-) -> Outcome {
-    let h = walk_sort(Sort::Headers, first, second);
-    let f = walk_sort(Sort::Frames, first, second);
-    let c = walk_sort(Sort::Cycles, first, second);
-    let r = walk_sort(Sort::Refusals, first, second);
-    let e = walk_sort(Sort::Closings, first, second);
-    let amiss = either(
-        either(h.amiss, f.amiss),
-        either(either(c.amiss, r.amiss), e.amiss),
-    );
-    let reason = reason_either(
-        h.amiss,
-        h.reason,
-        reason_either(
-            f.amiss,
-            f.reason,
-            reason_either(
-                c.amiss,
-                c.reason,
-                reason_either(r.amiss, r.reason, e.reason),
-            ),
-        ),
-    );
-    let headers = h.first;
-    let frames = f.first;
-    let cycles = c.first;
-    let refusals = r.first;
-    let closings = e.first;
-    let report = Report {
-        headers,
-        frames,
-        cycles,
-        refusals,
-        closings,
-        differing_frames: f.count,
-        differing_cycles: c.count,
-        place,
-    };
-    tell_known(amiss, reason, report, text, out)
-}
-
-fn tell_known(amiss: u8, why: Reason, report: Report, text: &mut [u8], out: Stdout) -> Outcome {
-    if amiss == CHANGED {
-        return Outcome::Changed;
-    }
-    if amiss != 0 {
-        return Outcome::Unread(amiss, why);
-    }
-    tell_report(report, text, out)
-}
-
-fn tell_report(report: Report, text: &mut [u8], out: Stdout) -> Outcome {
-    let written = log_report::write_report(report, text);
-    tell(written, text, out, Outcome::Parted)
-}
-
-// How two logs stand to each other.
-#[derive(Clone, Copy)]
-enum Beside {
-    Same,
-    From(u64),
-    Unread(u8, Reason),
-    Changed,
-}
-
-fn beside_of(walk: Walk) -> Beside {
-    let inputs = walk.inputs;
-    let ask = walk.ask;
-    let unread = inputs::failed(inputs);
-    if unread != 0 {
-        return Beside::Unread(unread, inputs::reason_of(inputs));
-    }
-    match ask {
-        Ask::Goes(_u, _v) => Beside::Changed,
-        Ask::WantsFirst => Beside::Changed,
-        Ask::WantsSecond => Beside::Changed,
-        Ask::Same => Beside::Same,
-        Ask::Apart => Beside::From(walk.place),
-        Ask::Strange => Beside::Changed,
-    }
-}
-
-fn order_in(first: Source<'_>, second: Source<'_>, mine: &mut [u8], other: &mut [u8]) -> Beside
+    mine: &mut [u8],
+    other: &mut [u8],
+) -> Result<Option<u64>, Failure>
     requires { (length mine.old ≡ 65536) × (length other.old ≡ 65536) }
 {
-    let walk = order::all(
-        order::opening(inputs::begin_both(first, second)),
-        &logs_of(first, second),
-        mine,
-        other,
-    );
-    beside_of(walk)
+    let begun = order::opening(inputs::begin_both(first, second));
+    parting_of(order::all(begun, &logs_of(first, second), mine, other))
 }
 
-fn ordered(first: Source<'_>, second: Source<'_>) -> Beside {
+fn ordered(first: Source<'_>, second: Source<'_>) -> Result<Option<u64>, Failure> {
     let mut mine = rooms::large();
     let mut other = rooms::large();
     order_in(first, second, &mut mine, &mut other)
 }
 
 // Two logs, each the lines of a log.
-fn compared(first: Source<'_>, second: Source<'_>, text: &mut [u8], out: Stdout) -> Outcome {
-    let beside = ordered(first, second);
-    match beside {
-        Beside::Same => tell_same(out),
-        Beside::From(place) => parted(place, first, second, text, out),
-        Beside::Unread(log, why) => Outcome::Unread(log, why),
-        Beside::Changed => Outcome::Changed,
-    }
-}
-
-fn is_same(outcome: Outcome) -> bool {
-    match outcome {
-        Outcome::Same => true,
-        Outcome::Parted => false,
-        Outcome::Strange => false,
-        Outcome::Unread(_log, _why) => false,
-        Outcome::Unwritten(_why) => false,
-        Outcome::Changed => false,
+fn compared(
+    first: Source<'_>,
+    second: Source<'_>,
+    text: &mut [u8],
+    out: Stdout,
+) -> Result<Told, Failure> {
+    match ordered(first, second)? {
+        None => {
+            write(out, b"same\n")?;
+            Ok(Told::Same)
+        }
+        Some(place) => {
+            let report = report_of(place, first, second)?;
+            let written = log_report::write_report(report, text);
+            tell(written, text, out)?;
+            Ok(Told::Parted)
+        }
     }
 }
 
@@ -325,15 +225,9 @@ pub fn run(
     second: Source<'_>,
     second_name: &[u8],
     out: Stdout,
-) -> Outcome {
+) -> Result<Told, Failure> {
     let mut text = rooms::large();
-    let one = judged(1, first, first_name, &mut text, out);
-    if !is_same(one) {
-        return one;
-    }
-    let two = judged(2, second, second_name, &mut text, out);
-    if !is_same(two) {
-        return two;
-    }
+    judged(Log::First, first, first_name, &mut text, out)?;
+    judged(Log::Second, second, second_name, &mut text, out)?;
     compared(first, second, &mut text, out)
 }

@@ -1,8 +1,8 @@
 // Where two logs part: `parts_main LOG LOG` tells it on standard output. `./parts` is its front.
 #![tactic(auto)]
 
-use parts_host::Outcome;
-use parts_walks::inputs::Source;
+use parts_host::{Failure, Told};
+use parts_walks::inputs::{Log, Source, Unread};
 use pipes::reason::Reason;
 use pipes::{named, rooms, told};
 use std::fs::File;
@@ -18,25 +18,26 @@ fn unwritten(err: Stderr, why: Reason) -> u64 {
     1
 }
 
-fn name_unread(err: Stderr, log: u8, why: Reason, first: &[u8], second: &[u8]) {
-    match log {
-        1 => named::fail(err, b"parts", first, why),
-        _ => named::fail(err, b"parts", second, why),
-    }
+fn name_unread(err: Stderr, unread: Unread, first: &[u8], second: &[u8]) {
+    let name = match unread.log {
+        Log::First => first,
+        Log::Second => second,
+    };
+    named::fail(err, b"parts", name, unread.why);
 }
 
 // What the program ends with: 0 for logs that are the same, 3 for logs that part, 8 for a line that is none of a log, 1 where a file could not be read or the text not written.
-fn status_of(err: Stderr, outcome: Outcome, first: &[u8], second: &[u8]) -> u64 {
+fn status_of(err: Stderr, outcome: Result<Told, Failure>, first: &[u8], second: &[u8]) -> u64 {
     match outcome {
-        Outcome::Same => 0,
-        Outcome::Parted => 3,
-        Outcome::Strange => 8,
-        Outcome::Unread(log, why) => {
-            name_unread(err, log, why, first, second);
+        Ok(Told::Same) => 0,
+        Ok(Told::Parted) => 3,
+        Err(Failure::Strange) => 8,
+        Err(Failure::Unread(unread)) => {
+            name_unread(err, unread, first, second);
             1
         }
-        Outcome::Unwritten(why) => unwritten(err, why),
-        Outcome::Changed => {
+        Err(Failure::Unwritten(why)) => unwritten(err, why),
+        Err(Failure::Changed) => {
             named::say(err, b"parts", b"a log changed while it was read");
             1
         }

@@ -4,7 +4,7 @@
 
 ghost use Rattle.std.specs.Prelude.{◌+◌, ◌≤◌, length};
 
-use parts_host::Outcome;
+use parts_host::{Failure, Told};
 use parts_walks::inputs::Source;
 use pipes::{named, rooms};
 use std::fs::File;
@@ -25,14 +25,20 @@ fn sum(a: u64, b: u32) -> u64 {
 }
 
 // A pair that did not come to its end is not compared in silence.
-fn judge(err: Stderr, outcome: Outcome) {
+fn judge(err: Stderr, outcome: Result<Told, Failure>) {
     match outcome {
-        Outcome::Same => {}
-        Outcome::Parted => {}
-        Outcome::Strange => {}
-        Outcome::Unread(_, _) => named::say(err, b"parts_suite", b"a file could not be read"),
-        Outcome::Unwritten(_) => named::say(err, b"parts_suite", b"a report could not be written"),
-        Outcome::Changed => named::say(err, b"parts_suite", b"a log is not the same in two passes"),
+        Ok(_) | Err(Failure::Strange) => {}
+        Err(Failure::Unread(_)) => named::say(err, b"parts_suite", b"a file could not be read"),
+        Err(Failure::Unwritten(_)) => named::say(
+            err,
+            b"parts_suite",
+            b"a report could not be written",
+        ),
+        Err(Failure::Changed) => named::say(
+            err,
+            b"parts_suite",
+            b"a log is not the same in two passes",
+        ),
     }
 }
 

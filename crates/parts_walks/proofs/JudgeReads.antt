@@ -1,4 +1,5 @@
 -- What the judge's loop comes to is what a host comes to that holds the bytes which the windows brought.
+use Rattle.std.specs.Prelude.{Option, Some, None}
 use Prim.Native.Nat.{ℕ}
 use mathlib.Core.Path.{◌≡◌, refl, sym, ap, subst, ◌∙◌}
 use mathlib.Core.Bool.{true}
@@ -8,7 +9,6 @@ use Rattle.pipes.specs.Window.{at_hand, Moved}
 use Rattle.pipes.specs.declared.window.Window.{Window}
 use Rattle.log_parts.proofs.Merges.{clash}
 use Rattle.log_parts.specs.declared.Judged.{Judged}
-use Rattle.log_parts.specs.declared.Judged.TheVariants as judged
 use Rattle.log_parts.specs.Judged.{judged_text}
 use Rattle.log_passes.specs.Judging.{judged_as, judged_in}
 use Rattle.log_passes.specs.Hosts.{Holds, Heard, Fine, Stops, Judges, goes, over, strange}
@@ -32,10 +32,10 @@ Stays Wants j k = k ≡ j
 Stays Over j k = k ≡ j
 Stays (Strange n) j k = k ≡ j
 
-stays_as : (j : Judging) (used n : ℕ) (r : Judged) → Stays (judged_as j used n r).look j (judged_as j used n r).judging
+stays_as : (j : Judging) (used n : ℕ) (r : Option Judged) → Stays (judged_as j used n r).look j (judged_as j used n r).judging
 unfolding judged_as
-stays_as j used n (judged.Good l f c) = record {}
-stays_as j used n judged.Strange = refl
+stays_as j used n (Some g) = record {}
+stays_as j used n None = refl
 
 stays_in : (j : Judging) (bytes : List ℕ) (t : Taken) → Stays (judged_in j bytes t).look j (judged_in j bytes t).judging
 unfolding judged_in

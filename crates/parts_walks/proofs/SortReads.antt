@@ -1,13 +1,14 @@
 -- What the loop of one sort comes to is what a host comes to that holds the bytes which the windows brought.
+use Rattle.std.specs.Prelude.{Option}
 use Prim.Native.Nat.{ℕ}
 use mathlib.Core.Path.{◌≡◌, refl, sym, ap, subst, ◌∙◌}
 use mathlib.Core.Bool.{Bool, true}
 use mathlib.Core.List.{List, [], ◌++◌, append_assoc}
 use lib.ListN.{drop}
 use Rattle.pipes.specs.Window.{at_hand}
+use Rattle.log_lines.specs.declared.Line.{Line}
 use Rattle.log_parts.proofs.Merges.{clash}
 use Rattle.log_parts.specs.declared.Sort.{Sort}
-use Rattle.log_parts.specs.declared.Side.{Side}
 use Rattle.log_parts.specs.declared.Tally.{Tally}
 use Rattle.log_parts.specs.declared.Turn.{Turn}
 use Rattle.log_parts.specs.declared.Turn.TheVariants as turn
@@ -63,7 +64,7 @@ kept_second p found.Nothing = record {}
 kept_second p found.Wants = record { pass = refl; first = refl; second = refl }
 kept_second p found.Strange = record { pass = refl; first = refl; second = refl }
 
-kept_turn : (p : Pass) (x y : Side) (t : Turn) → p.first ≡ Has x → p.second ≡ Has y → KeptIn p (turned_by p.tally x y t)
+kept_turn : (p : Pass) (x y : Option Line) (t : Turn) → p.first ≡ Has x → p.second ≡ Has y → KeptIn p (turned_by p.tally x y t)
 unfolding turned_by
 kept_turn p x y turn.Over e f = record { pass = ap (λ (h : Held). pass_of h (Has y) p.tally) (sym e) ∙ ap (λ (h : Held). pass_of p.first h p.tally) (sym f); first = refl; second = refl }
 kept_turn p x y turn.Alike e f = record {}

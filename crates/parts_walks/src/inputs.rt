@@ -5,7 +5,7 @@ ghost use Rattle.parts_walks.specs.Inputs.{BothWithin, BothMoved, Passed, FirstR
 
 use pipes::reason::Reason;
 use pipes::window::Window;
-use pipes::{named, reason, window};
+use pipes::{named, window};
 use std::fs::File;
 
 // A log is so many bytes of an open file at most, from that place on.
@@ -48,12 +48,17 @@ pub fn begin_both(first: Source<'_>, second: Source<'_>) -> Inputs
     }
 }
 
-// Which log is to be read on.
 #[derive(Clone, Copy)]
-pub enum Wanted {
-    Neither,
+pub enum Log {
     First,
     Second,
+}
+
+// Which log could not be read, and why.
+#[derive(Clone, Copy)]
+pub struct Unread {
+    pub log: Log,
+    pub why: Reason,
 }
 
 fn past(inputs: Inputs, u: usize, v: usize) -> Inputs
@@ -93,7 +98,7 @@ pub fn go_on(
     inputs: Inputs,
     u: usize,
     v: usize,
-    wanted: Wanted,
+    wanted: Option<Log>,
     logs: &Logs<'_>,
     first: &mut [u8],
     second: &mut [u8],
@@ -103,28 +108,23 @@ pub fn go_on(
 {
     let rest = past(inputs, u, v);
     match wanted {
-        Wanted::Neither => rest,
-        Wanted::First => refill_first(rest, logs.first, first),
-        Wanted::Second => refill_second(rest, logs.second, second),
+        None => rest,
+        Some(Log::First) => refill_first(rest, logs.first, first),
+        Some(Log::Second) => refill_second(rest, logs.second, second),
     }
 }
 
-// 0 where none has failed, else the number of the first log that has.
-pub fn failed(inputs: Inputs) -> u8 {
-    if inputs.first.failed.is_some() {
-        return 1;
+// The first log of which a read has failed.
+pub fn failed(inputs: Inputs) -> Option<Unread> {
+    match (inputs.first.failed, inputs.second.failed) {
+        (Some(why), _) => Some(Unread {
+            log: Log::First,
+            why,
+        }),
+        (None, Some(why)) => Some(Unread {
+            log: Log::Second,
+            why,
+        }),
+        (None, None) => None,
     }
-    if inputs.second.failed.is_some() {
-        return 2;
-    }
-    0
-}
-
-// Why that one has.
-pub fn reason_of(inputs: Inputs) -> Reason {
-    inputs
-        .first
-        .failed
-        .or(inputs.second.failed)
-        .unwrap_or(reason::none())
 }

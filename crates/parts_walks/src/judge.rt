@@ -3,7 +3,6 @@ ghost use Rattle.std.specs.Prelude.{◌≡◌, length};
 ghost use Rattle.pipes.specs.Window.{Within};
 ghost use Rattle.parts_walks.specs.Judged.{judge_opened, judge_answered, Heeded, JudgeTurned, JudgeWalked};
 
-use log_parts::Last;
 use log_passes::judging;
 use log_passes::judging::{Judgement, Judging, Look};
 use pipes::window;
@@ -24,8 +23,8 @@ pub fn opening(window: Window) -> Stand
 {
     Stand {
         judging: Judging {
-            frames: Last::Nothing,
-            cycles: Last::Nothing,
+            frames: None,
+            cycles: None,
             place: 1,
         },
         window,
@@ -38,9 +37,7 @@ fn ask(judging: Judging, window: Window, room: &[u8]) -> Judgement
     requires { (Within window) × (length room.now ≡ 65536) }
     ensures { result ≡ judge_answered judging window room.now }
 {
-    let at = window.at;
-    let end = window.end;
-    judging::judge_next(judging, &room[at..end], window.left == 0)
+    judging::judge_next(judging, &room[window.at..window.end], window.left == 0)
 }
 
 // What was answered is done: bytes are used, or more of them read.
@@ -60,36 +57,22 @@ fn turn(stand: Stand, from: &File, room: &mut [u8]) -> Stand
     requires { (Within stand.window) × (length room.old ≡ 65536) }
     ensures { (Within result.window) × (JudgeTurned stand room.old result room.new) }
 {
-    let before = stand.judging;
-    let window = stand.window;
-    let judgement = ask(before, window, room);
-    let judging = judgement.judging;
-    let look = judgement.look;
-    let next = heed(look, window, from, room);
+    let Judgement { judging, look } = ask(stand.judging, stand.window, room);
+    let window = heed(look, stand.window, from, room);
     Stand {
         judging,
-        window: next,
+        window,
         look,
     }
 }
 
 fn wanted(look: Look) -> bool {
-    match look {
-        Look::Goes(_used) => true,
-        Look::Wants => true,
-        Look::Over => false,
-        Look::Strange(_n) => false,
-    }
+    matches!(look, Look::Goes(_) | Look::Wants)
 }
 
 // Until the log is over, a line is none, or a read fails.
 fn goes_on(stand: Stand) -> bool {
-    let window = stand.window;
-    let look = stand.look;
-    if window.failed.is_some() {
-        return false;
-    }
-    wanted(look)
+    stand.window.failed.is_none() && wanted(stand.look)
 }
 
 // The turns are counted so that the loop ends for certain: 2^64 of them take centuries.
@@ -98,13 +81,11 @@ pub fn all(first: Stand, from: &File, room: &mut [u8]) -> Stand
     ensures { (Within result.window) × (JudgeWalked first room.old result room.new) }
 {
     let mut stand = first;
-    let mut turns: u64 = 0;
-    while turns < 0xffff_ffff_ffff_ffff {
+    for _ in 0..u64::MAX {
         if !goes_on(stand) {
             return stand;
         }
         stand = turn(stand, from, room);
-        turns = turns + 1;
     }
     stand
 }

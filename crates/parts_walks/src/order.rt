@@ -4,7 +4,7 @@ ghost use Rattle.parts_walks.specs.Inputs.{BothWithin};
 ghost use Rattle.parts_walks.specs.Ordered.{order_opened, order_answered, first_used, second_used, OrderTurned, OrderWalked};
 
 use crate::inputs;
-use crate::inputs::{Inputs, Logs, Wanted};
+use crate::inputs::{Inputs, Log, Logs};
 use log_passes::beside;
 use log_passes::beside::{Ask, Beside};
 
@@ -72,14 +72,11 @@ fn second_used(ask: Ask) -> usize
 }
 
 // Which log is to be read on.
-fn read_on(ask: Ask) -> Wanted {
+fn read_on(ask: Ask) -> Option<Log> {
     match ask {
-        Ask::Goes(_u, _v) => Wanted::Neither,
-        Ask::WantsFirst => Wanted::First,
-        Ask::WantsSecond => Wanted::Second,
-        Ask::Same => Wanted::Neither,
-        Ask::Apart => Wanted::Neither,
-        Ask::Strange => Wanted::Neither,
+        Ask::WantsFirst => Some(Log::First),
+        Ask::WantsSecond => Some(Log::Second),
+        Ask::Goes(..) | Ask::Same | Ask::Apart | Ask::Strange => None,
     }
 }
 
@@ -103,24 +100,12 @@ fn turn(walk: Walk, logs: &Logs<'_>, first: &mut [u8], second: &mut [u8]) -> Wal
 }
 
 fn wanted(ask: Ask) -> bool {
-    match ask {
-        Ask::Goes(_u, _v) => true,
-        Ask::WantsFirst => true,
-        Ask::WantsSecond => true,
-        Ask::Same => false,
-        Ask::Apart => false,
-        Ask::Strange => false,
-    }
+    matches!(ask, Ask::Goes(..) | Ask::WantsFirst | Ask::WantsSecond)
 }
 
 // Until nothing more is asked for, or a read fails.
 fn goes_on(walk: Walk) -> bool {
-    let inputs = walk.inputs;
-    let ask = walk.ask;
-    if inputs::failed(inputs) != 0 {
-        return false;
-    }
-    wanted(ask)
+    inputs::failed(walk.inputs).is_none() && wanted(walk.ask)
 }
 
 // The turns are counted so that the loop ends for certain: 2^64 of them take centuries.
@@ -129,13 +114,11 @@ pub fn all(begun: Walk, logs: &Logs<'_>, first: &mut [u8], second: &mut [u8]) ->
     ensures { OrderWalked begun first.old second.old result first.new second.new }
 {
     let mut walk = begun;
-    let mut turns: u64 = 0;
-    while turns < 0xffff_ffff_ffff_ffff {
+    for _ in 0..u64::MAX {
         if !goes_on(walk) {
             return walk;
         }
         walk = turn(walk, logs, first, second);
-        turns = turns + 1;
     }
     walk
 }

@@ -4,7 +4,7 @@ ghost use Rattle.parts_walks.specs.Inputs.{BothWithin};
 ghost use Rattle.parts_walks.specs.Counted.{count_opened, count_answered, CountTurned, CountWalked};
 
 use crate::inputs;
-use crate::inputs::{Inputs, Logs, Wanted};
+use crate::inputs::{Inputs, Log, Logs};
 use log_parts::Sort;
 use log_passes::passing;
 use log_passes::passing::{Need, Pass, Step};
@@ -48,13 +48,11 @@ fn ask(sort: Sort, pass: Pass, inputs: Inputs, first: &[u8], second: &[u8]) -> S
 }
 
 // Which log is to be read on.
-fn read_on(need: Need) -> Wanted {
+fn read_on(need: Need) -> Option<Log> {
     match need {
-        Need::Goes => Wanted::Neither,
-        Need::WantsFirst => Wanted::First,
-        Need::WantsSecond => Wanted::Second,
-        Need::Over => Wanted::Neither,
-        Need::Strange => Wanted::Neither,
+        Need::WantsFirst => Some(Log::First),
+        Need::WantsSecond => Some(Log::Second),
+        Need::Goes | Need::Over | Need::Strange => None,
     }
 }
 
@@ -82,23 +80,12 @@ fn turn(sort: Sort, walk: Walk, logs: &Logs<'_>, first: &mut [u8], second: &mut 
 }
 
 fn wanted(need: Need) -> bool {
-    match need {
-        Need::Goes => true,
-        Need::WantsFirst => true,
-        Need::WantsSecond => true,
-        Need::Over => false,
-        Need::Strange => false,
-    }
+    matches!(need, Need::Goes | Need::WantsFirst | Need::WantsSecond)
 }
 
 // Until nothing more is asked for, or a read fails.
 fn goes_on(walk: Walk) -> bool {
-    let inputs = walk.inputs;
-    let need = walk.need;
-    if inputs::failed(inputs) != 0 {
-        return false;
-    }
-    wanted(need)
+    inputs::failed(walk.inputs).is_none() && wanted(walk.need)
 }
 
 // The turns are counted so that the loop ends for certain: 2^64 of them take centuries.
@@ -107,13 +94,11 @@ pub fn all(sort: Sort, begun: Walk, logs: &Logs<'_>, first: &mut [u8], second: &
     ensures { CountWalked sort begun first.old second.old result first.new second.new }
 {
     let mut walk = begun;
-    let mut turns: u64 = 0;
-    while turns < 0xffff_ffff_ffff_ffff {
+    for _ in 0..u64::MAX {
         if !goes_on(walk) {
             return walk;
         }
         walk = turn(sort, walk, logs, first, second);
-        turns = turns + 1;
     }
     walk
 }

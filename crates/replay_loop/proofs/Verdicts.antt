@@ -1,5 +1,5 @@
 -- The verdict of the loop on a log is `checked` of the bytes that it read.
-use Rattle.std.specs.Prelude.{Some}
+use Rattle.std.specs.Prelude.{Some, Option, None}
 use Prim.Native.Nat.{ℕ, ◌+◌, ◌-◌, ◌^◌, ◌≤◌, ◌<◌}
 use native.Mathlib.Omega.{arith}
 use mathlib.Core.Path.{◌≡◌, refl, sym, ap, subst, ◌∙◌}
@@ -24,8 +24,6 @@ use Rattle.log_text.specs.Cut.{cut_of}
 use Rattle.log_hold.specs.Held.{standing, held}
 use Rattle.log_hold.specs.Reading.{Sought, After}
 use Rattle.log_hold.specs.declared.Check.{Check}
-use Rattle.log_hold.specs.declared.Due.{Due}
-use Rattle.log_hold.specs.declared.Due.TheVariants as due
 use Rattle.log_hold.specs.declared.Stands.{Stands}
 use Rattle.log_hold.specs.declared.Stands.TheVariants as stands
 use Rattle.log_hold.specs.declared.Verdict.{Verdict}
@@ -66,7 +64,7 @@ clash z = absurd (omega (arith, z))
 
 -- ---- one line of the log, as it was read
 
-module _ (c c' : Check) (d : Due) (room room' z : List ℕ) (w : Window) (s : Stands) (sought : Sought d c.log room w room' s) where
+module _ (c c' : Check) (d : Option Line) (room room' z : List ℕ) (w : Window) (s : Stands) (sought : Sought d c.log room w room' s) where
   abbrev piece_at : Piece
   piece_at = piece (at_hand w room') (over w)
 
@@ -100,25 +98,25 @@ top = 2 ^ 64 - 1
 counts_on : (k n : ℕ) → n ≡ next_long_count k → n < top → n ≡ k + 1
 counts_on k n e h = omega (arith, e, h)
 
-nothing_right : (hand : List ℕ) (p : cuts.Piece) (n : ℕ) → standing due.Nothing hand p ≡ stands.Right n → ⊥
+nothing_right : (hand : List ℕ) (p : cuts.Piece) (n : ℕ) → standing None hand p ≡ stands.Right n → ⊥
 nothing_right hand (cut.Line m) n e = clash (cc)
 nothing_right hand (cut.Last m) n e = clash (cc)
 nothing_right hand cut.Long n e = clash (cc)
 nothing_right hand cut.Wants n e = clash (cc)
 nothing_right hand cut.Over n e = clash (cc)
 
-never_right : (hand : List ℕ) (b : Bool) (n : ℕ) → held due.Nothing hand b ≡ stands.Right n → ⊥
+never_right : (hand : List ℕ) (b : Bool) (n : ℕ) → held None hand b ≡ stands.Right n → ⊥
 unfolding held
 never_right hand b n e = nothing_right hand (cut_of hand b) n e
 
-line_over : (l : Line) (hand : List ℕ) (p : cuts.Piece) → standing (due.Line l) hand p ≡ stands.Over → ⊥
+line_over : (l : Line) (hand : List ℕ) (p : cuts.Piece) → standing (Some l) hand p ≡ stands.Over → ⊥
 line_over l hand (cut.Line m) e = pick_case (λ (s : Stands). s ≡ stands.Over → ⊥) (same_text _ (text_of l)) _ _ (λ t e. clash (cc)) (λ t e. clash (cc)) e
 line_over l hand (cut.Last m) e = pick_case (λ (s : Stands). s ≡ stands.Over → ⊥) (same_text _ (text_of l)) _ _ (λ t e. clash (cc)) (λ t e. clash (cc)) e
 line_over l hand cut.Long e = clash (cc)
 line_over l hand cut.Wants e = clash (cc)
 line_over l hand cut.Over e = clash (cc)
 
-never_over : (l : Line) (hand : List ℕ) (b : Bool) → held (due.Line l) hand b ≡ stands.Over → ⊥
+never_over : (l : Line) (hand : List ℕ) (b : Bool) → held (Some l) hand b ≡ stands.Over → ⊥
 unfolding held
 never_over l hand b e = line_over l hand (cut_of hand b) e
 
@@ -147,19 +145,19 @@ module _ (events far near : List ℕ) {h : Header} {s s' : Stream} {b b' : Buffe
   Known k r later = (IsCheck k) × (FairLog k later) × (line_at k < top) × (Before (line_at k) (log_at k r later))
 
   module _ (k : Line) (c c' : Check) (is : one.gave.answer ≡ Says k) where
-    right_by : (w : Window) (x : Stands) (sought : Sought (due.Line k) c.log room w room' x) → After x c (due.Line k) w room' c' → c'.verdict ≡ verdict.Going → (over c'.log ≡ true → z ≡ []) → c'.line < top
+    right_by : (w : Window) (x : Stands) (sought : Sought (Some k) c.log room w room' x) → After x c (Some k) w room' c' → c'.verdict ≡ verdict.Going → (over c'.log ≡ true → z ≡ []) → c'.line < top
         → After' c'.line (at_hand c'.log room' ++ z) → Known (Checks c) room (sought.more ++ z)
     right_by w (stands.Right m) sought a going last less t =
         let next = counts_on c.line c'.line a.3 less in
-        let ended-too = ended c c' (due.Line k) room room' z w (stands.Right m) sought c'.log.left a.2 last in
+        let ended-too = ended c c' (Some k) room room' z w (stands.Right m) sought c'.log.left a.2 last in
         let later = subst (λ (j : ℕ). After' j (drop m (at_hand w room') ++ z)) next (subst (λ (t : List ℕ). After' c'.line (t ++ z)) a.1 t) in (
           record {},
-          fair_sought c c' (due.Line k) room room' z w (stands.Right m) sought ended-too,
+          fair_sought c c' (Some k) room room' z w (stands.Right m) sought ended-too,
           omega (arith, next, less),
-          host.right s.place b (rest_before one l fair) c.line k _ v m (call one l fair) (piece_at c c' (due.Line k) room room' z w (stands.Right m) sought)
-              (front c c' (due.Line k) room room' z w (stands.Right m) sought ended-too) is (sym sought.stands) (handed (c.line + 1) (drop m (at_hand w room') ++ z) later),
+          host.right s.place b (rest_before one l fair) c.line k _ v m (call one l fair) (piece_at c c' (Some k) room room' z w (stands.Right m) sought)
+              (front c c' (Some k) room room' z w (stands.Right m) sought ended-too) is (sym sought.stands) (handed (c.line + 1) (drop m (at_hand w room') ++ z) later),
         )
-    right_by w stands.Wrong sought a going last less t = let no : verdict.Wrong (due.Line k) ≡ verdict.Going = sym a.2 ∙ going in clash (cc)
+    right_by w stands.Wrong sought a going last less t = let no : verdict.Wrong (Some k) ≡ verdict.Going = sym a.2 ∙ going in clash (cc)
     right_by w stands.Wants sought a going last less t = absurd a
     right_by w stands.Over sought a going last less t = let no : verdict.Accepted ≡ verdict.Going = sym a.2 ∙ going in clash (cc)
 
@@ -183,55 +181,55 @@ module _ (events far near : List ℕ) {h : Header} {s s' : Stream} {b b' : Buffe
   -- ---- the last turn
 
   module _ (c'' : Check) (room'' : List ℕ) (last : over c''.log ≡ true → z ≡ []) (less : c''.line < top) (found : Found c''.verdict c''.line (at_hand c''.log room'' ++ z) v) where
-    named : (d : Due) (k : ℕ) (log : List ℕ) → c''.verdict ≡ verdict.Wrong d → c''.line ≡ k → at_hand c''.log room'' ++ z ≡ log → v ≡ wrong_at k log (due_side d)
+    named : (d : Option Line) (k : ℕ) (log : List ℕ) → c''.verdict ≡ verdict.Wrong d → c''.line ≡ k → at_hand c''.log room'' ++ z ≡ log → v ≡ wrong_at k log (due_side d)
     named d k log e line is = subst (λ (x : Verdict). Found x c''.line (at_hand c''.log room'' ++ z) v) e found ∙ ap (λ (j : ℕ). wrong_at j (at_hand c''.log room'' ++ z) (due_side d)) line ∙ ap (λ (m : List ℕ). wrong_at k m (due_side d)) is
 
     -- a line that should stand there does not
-    wrong_by : (k : Line) (c c' : Check) → one.gave.answer ≡ Says k → c'' ≡ c' → room'' ≡ room' → (w : Window) (x : Stands) (sought : Sought (due.Line k) c.log room w room' x) → After x c (due.Line k) w room' c'
+    wrong_by : (k : Line) (c c' : Check) → one.gave.answer ≡ Says k → c'' ≡ c' → room'' ≡ room' → (w : Window) (x : Stands) (sought : Sought (Some k) c.log room w room' x) → After x c (Some k) w room' c'
         → Known (Checks c) room (sought.more ++ z)
     wrong_by k c c' is same rooms w (stands.Right m) sought a = going_none c''.verdict c''.line (at_hand c''.log room'' ++ z) v (ap (λ (x : Check). x.verdict) same ∙ a.4) found
     wrong_by k c c' is same rooms w stands.Wrong sought a =
         let log : c''.log ≡ w = ap (λ (x : Check). x.log) same ∙ a.0 in
         let line : c''.line ≡ c.line = ap (λ (x : Check). x.line) same ∙ a.1 in
         let ended-too : over w ≡ true → z ≡ [] = subst (λ (x : Window). over x ≡ true → z ≡ []) log last in
-        let stands-there : at_hand c''.log room'' ++ z ≡ log_before c c' (due.Line k) room room' z w stands.Wrong sought =
-        ap (λ (x : Window). at_hand x room'' ++ z) log ∙ ap (λ (r : List ℕ). at_hand w r ++ z) rooms ∙ sym (joins c c' (due.Line k) room room' z w stands.Wrong sought) in (
+        let stands-there : at_hand c''.log room'' ++ z ≡ log_before c c' (Some k) room room' z w stands.Wrong sought =
+        ap (λ (x : Window). at_hand x room'' ++ z) log ∙ ap (λ (r : List ℕ). at_hand w r ++ z) rooms ∙ sym (joins c c' (Some k) room room' z w stands.Wrong sought) in (
           record {},
-          fair_sought c c' (due.Line k) room room' z w stands.Wrong sought ended-too,
+          fair_sought c c' (Some k) room room' z w stands.Wrong sought ended-too,
           subst (λ (j : ℕ). j < top) line less,
-          subst (Checking h s.place b (rest_before one l fair) c.line (log_before c c' (due.Line k) room room' z w stands.Wrong sought))
-              (sym (named (due.Line k) c.line _ (ap (λ (x : Check). x.verdict) same ∙ a.2) line stands-there))
-              (host.wrong s.place b (rest_before one l fair) c.line k _ (call one l fair) (piece_at c c' (due.Line k) room room' z w stands.Wrong sought)
-              (front c c' (due.Line k) room room' z w stands.Wrong sought ended-too) is (sym sought.stands)),
+          subst (Checking h s.place b (rest_before one l fair) c.line (log_before c c' (Some k) room room' z w stands.Wrong sought))
+              (sym (named (Some k) c.line _ (ap (λ (x : Check). x.verdict) same ∙ a.2) line stands-there))
+              (host.wrong s.place b (rest_before one l fair) c.line k _ (call one l fair) (piece_at c c' (Some k) room room' z w stands.Wrong sought)
+              (front c c' (Some k) room room' z w stands.Wrong sought ended-too) is (sym sought.stands)),
         )
     wrong_by k c c' is same rooms w stands.Wants sought a = absurd a
     wrong_by k c c' is same rooms w stands.Over sought a = absurd (never_over k (at_hand w room') (over w) (sym sought.stands))
 
     -- nothing should stand there any more
-    over_by : (c : Check) → one.gave.answer ≡ Over → (w : Window) (x : Stands) (sought : Sought due.Nothing c.log room w room'' x) → After x c due.Nothing w room'' c'' → Known (Checks c) room (sought.more ++ z)
+    over_by : (c : Check) → one.gave.answer ≡ Over → (w : Window) (x : Stands) (sought : Sought None c.log room w room'' x) → After x c None w room'' c'' → Known (Checks c) room (sought.more ++ z)
     over_by c is w (stands.Right m) sought a = absurd (never_right (at_hand w room'') (over w) m (sym sought.stands))
     over_by c is w stands.Wrong sought a =
         let ended-too : over w ≡ true → z ≡ [] = subst (λ (x : Window). over x ≡ true → z ≡ []) a.0 last in
-        let stands-there : at_hand c''.log room'' ++ z ≡ log_before c c'' due.Nothing room room'' z w stands.Wrong sought =
-        ap (λ (x : Window). at_hand x room'' ++ z) a.0 ∙ sym (joins c c'' due.Nothing room room'' z w stands.Wrong sought) in (
+        let stands-there : at_hand c''.log room'' ++ z ≡ log_before c c'' None room room'' z w stands.Wrong sought =
+        ap (λ (x : Window). at_hand x room'' ++ z) a.0 ∙ sym (joins c c'' None room room'' z w stands.Wrong sought) in (
           record {},
-          fair_sought c c'' due.Nothing room room'' z w stands.Wrong sought ended-too,
+          fair_sought c c'' None room room'' z w stands.Wrong sought ended-too,
           subst (λ (j : ℕ). j < top) a.1 less,
-          subst (Checking h s.place b (rest_before one l fair) c.line (log_before c c'' due.Nothing room room'' z w stands.Wrong sought))
-              (sym (named due.Nothing c.line _ a.2 a.1 stands-there))
-              (host.extra s.place b (rest_before one l fair) c.line _ (call one l fair) (piece_at c c'' due.Nothing room room'' z w stands.Wrong sought)
-              (front c c'' due.Nothing room room'' z w stands.Wrong sought ended-too) is (sym sought.stands)),
+          subst (Checking h s.place b (rest_before one l fair) c.line (log_before c c'' None room room'' z w stands.Wrong sought))
+              (sym (named None c.line _ a.2 a.1 stands-there))
+              (host.extra s.place b (rest_before one l fair) c.line _ (call one l fair) (piece_at c c'' None room room'' z w stands.Wrong sought)
+              (front c c'' None room room'' z w stands.Wrong sought ended-too) is (sym sought.stands)),
         )
     over_by c is w stands.Wants sought a = absurd a
     over_by c is w stands.Over sought a =
         let ended-too : over w ≡ true → z ≡ [] = subst (λ (x : Window). over x ≡ true → z ≡ []) a.0 last in
         let accepted : v ≡ Same = subst (λ (x : Verdict). Found x c''.line (at_hand c''.log room'' ++ z) v) a.2 found in (
           record {},
-          fair_sought c c'' due.Nothing room room'' z w stands.Over sought ended-too,
+          fair_sought c c'' None room room'' z w stands.Over sought ended-too,
           subst (λ (j : ℕ). j < top) a.1 less,
-          subst (Checking h s.place b (rest_before one l fair) c.line (log_before c c'' due.Nothing room room'' z w stands.Over sought)) (sym accepted)
-              (host.accepted s.place b (rest_before one l fair) c.line _ (call one l fair) (piece_at c c'' due.Nothing room room'' z w stands.Over sought)
-              (front c c'' due.Nothing room room'' z w stands.Over sought ended-too) is (sym sought.stands)),
+          subst (Checking h s.place b (rest_before one l fair) c.line (log_before c c'' None room room'' z w stands.Over sought)) (sym accepted)
+              (host.accepted s.place b (rest_before one l fair) c.line _ (call one l fair) (piece_at c c'' None room room'' z w stands.Over sought)
+              (front c c'' None room room'' z w stands.Over sought ended-too) is (sym sought.stands)),
         )
 
     going_still : {A : Type 0} (c : Check) → c.verdict ≡ verdict.Going → c'' ≡ c → A

@@ -1,4 +1,5 @@
 -- What each of the two does with a line, and what stays true of it.
+use Rattle.std.specs.Prelude.{Option, Some}
 use Prim.Native.Nat.{ℕ, ◌≤◌}
 use native.Mathlib.Omega.{arith}
 use mathlib.Core.Path.{◌≡◌, refl, sym, subst, ◌∙◌}
@@ -11,8 +12,6 @@ use Rattle.log_sink.specs.Sink.{Wrote}
 use Rattle.log_sink.specs.declared.Text.{Text}
 use Rattle.log_hold.specs.Reading.{Held, After}
 use Rattle.log_hold.specs.declared.Check.{Check}
-use Rattle.log_hold.specs.declared.Due.{Due}
-use Rattle.log_hold.specs.declared.Due.TheVariants as due
 use Rattle.log_hold.specs.declared.Verdict.TheVariants as verdict
 use Rattle.log_hold.specs.declared.Stands.{Stands}
 use Rattle.log_hold.specs.declared.Stands.TheVariants.{Right, Wrong, Wants, Over}
@@ -28,7 +27,7 @@ fits_writes s t room e f = subst (λ (z : Sink). Fits z room) e f
 pub fits_checks : (s : Sink) (c : Check) (room : List ℕ) → s ≡ Checks c → Fits s room → (length room ≡ 65536) × (Within c.log)
 fits_checks s c room e f = subst (λ (z : Sink). Fits z room) e f
 
-pub held_within : (c c' : Check) (d : Due) (room room' : List ℕ) → Held c d room c' room' → Within c'.log
+pub held_within : (c c' : Check) (d : Option Line) (room room' : List ℕ) → Held c d room c' room' → Within c'.log
 held_within c c' d room room' h = by h.stands h.after
   where
     by : (s : Stands) → After s c d h.window room' c' → Within c'.log
@@ -41,9 +40,9 @@ pub heard_writes : (s : Sink) (t t' : Text) (l : Line) (room room' : List ℕ) �
 heard_writes s t t' l room room' e f size j =
     (subst (λ (z : Sink). Heard z l room (Writes t') room') (sym e) j, (size ∙ (fits_writes s t room e f).0, j.joined.inside))
 
-pub heard_checks : (s : Sink) (c c' : Check) (l : Line) (room room' : List ℕ) → s ≡ Checks c → Fits s room → length room' ≡ length room → Held c (due.Line l) room c' room' → (Heard s l room (Checks c') room') × (Fits (Checks c') room')
+pub heard_checks : (s : Sink) (c c' : Check) (l : Line) (room room' : List ℕ) → s ≡ Checks c → Fits s room → length room' ≡ length room → Held c (Some l) room c' room' → (Heard s l room (Checks c') room') × (Fits (Checks c') room')
 heard_checks s c c' l room room' e f size h =
-    (subst (λ (z : Sink). Heard z l room (Checks c') room') (sym e) h, (size ∙ (fits_checks s c room e f).0, held_within c c' (due.Line l) room room' h))
+    (subst (λ (z : Sink). Heard z l room (Checks c') room') (sym e) h, (size ∙ (fits_checks s c room e f).0, held_within c c' (Some l) room room' h))
 
 module _ (a : Answer) (s s' : Sink) (room room' : List ℕ) where
   pub took_line : (l : Line) → a ≡ answer.Says l → (Heard s l room s' room') × (Fits s' room') → (HeardOf a s room s' room') × (Fits s' room')

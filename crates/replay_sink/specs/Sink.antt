@@ -1,11 +1,10 @@
 -- Where the lines of a replay go: into a text, or beside a log that is checked. Both have the same room, of the text that is held or of the log's bytes at hand.
-use Rattle.std.specs.Prelude.{ℕ, ◌≤◌, ◌≡◌, Bool, true, false, ◌⊎◌, List, length}
+use Rattle.std.specs.Prelude.{ℕ, ◌≤◌, ◌≡◌, Bool, true, false, ◌⊎◌, List, length, Some, None}
 use Rattle.pipes.specs.Window.{Within}
 use Rattle.log_lines.specs.declared.Line.{Line}
 use Rattle.log_sink.specs.Sink.{Wrote}
 use Rattle.log_hold.specs.Reading.{Held}
 use Rattle.log_hold.specs.declared.Check.{Check}
-use Rattle.log_hold.specs.declared.Due.TheVariants as due
 use Rattle.log_hold.specs.declared.Verdict.TheVariants as verdict
 use Rattle.replay_stream.specs.declared.Answer.{Answer}
 use Rattle.replay_stream.specs.declared.Answer.TheVariants.{Says, Silent, Wants, Over}
@@ -28,7 +27,7 @@ Fresh (Checks c) = (c.line ≡ 1) × (c.verdict ≡ verdict.Going)
 abbrev pub Heard : Sink → Line → List ℕ → Sink → List ℕ → Type 0
 Heard (Writes t) l room (Writes t') room' = Wrote t room l t' room'
 Heard (Writes t) l room (Checks c') room' = ⊥
-Heard (Checks c) l room (Checks c') room' = Held c (due.Line l) room c' room'
+Heard (Checks c) l room (Checks c') room' = Held c (Some l) room c' room'
 Heard (Checks c) l room (Writes t') room' = ⊥
 
 -- of an answer: its line, if it is one
@@ -45,7 +44,7 @@ Open (Checks c) = c.verdict ≡ verdict.Going
 
 -- no line comes any more: a log that was right so far must be over
 abbrev pub Closed : Check → List ℕ → Check → List ℕ → Type 0
-Closed c room c' room' = ((c.verdict ≡ verdict.Going) × (Held c due.Nothing room c' room')) ⊎ ((c' ≡ c) × (room' ≡ room))
+Closed c room c' room' = ((c.verdict ≡ verdict.Going) × (Held c None room c' room')) ⊎ ((c' ≡ c) × (room' ≡ room))
 
 -- the same, where the log of the recording is over; else all stays
 abbrev pub ClosedIf : Bool → Check → List ℕ → Check → List ℕ → Type 0

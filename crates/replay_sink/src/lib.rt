@@ -5,7 +5,7 @@ ghost use Rattle.std.specs.Prelude.{◌≡◌, true, ◌≤◌, length};
 ghost use Rattle.pipes.specs.Window.{Within};
 ghost use Rattle.replay_sink.specs.Sink.{Fits, FitsAny, Fresh, Heard, HeardOf, Open, Closed, ClosedIf, Finished};
 
-use log_hold::{Check, Due, Verdict};
+use log_hold::{Check, Verdict};
 use log_lines::Line;
 use log_sink::Text;
 use pipes::told::Watch;
@@ -55,7 +55,7 @@ fn hear(sink: Sink, line: Line, log: Option<&File>, room: &mut [u8]) -> Sink
 {
     match sink {
         Sink::Writes(text) => Sink::Writes(log_sink::write(text, line, room)),
-        Sink::Checks(check) => Sink::Checks(log_hold::hold_next(check, Due::Line(line), log, room)),
+        Sink::Checks(check) => Sink::Checks(log_hold::hold_next(check, Some(line), log, room)),
     }
 }
 
@@ -102,7 +102,7 @@ fn close(check: Check, log: Option<&File>, room: &mut [u8]) -> Check
     ensures { (Closed check room.old result room.new) × (Within result.log) }
 {
     if on_its_way(check) {
-        return log_hold::hold_next(check, Due::Nothing, log, room);
+        return log_hold::hold_next(check, None, log, room);
     }
     check
 }

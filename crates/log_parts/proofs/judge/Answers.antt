@@ -3,10 +3,10 @@ use Rattle.log_parts.specs.Judged.{judged_text}
 use Rattle.log_parts.proofs.Judging.{read_is}
 use Rattle.log_parts.proofs.judge.Goals as goal
 
-pub returns-in-Some : goal.returns-in-Some
+pub returns-in_err-line : goal.returns-in_err-line
 unfolding judged_text
-returns-in-Some c = rw (read_is _ _ c.read_line-read.ensures, c.in-Some.is) c.judge_line.ensures
+returns-in_err-line c = rw (read_is _ _ c.read_line.ensures, c.in_err-line.was) c.from_residual.ensures
 
-pub returns-in-None : goal.returns-in-None
+pub returns : goal.returns
 unfolding judged_text
-returns-in-None c = rw (read_is _ _ c.read_line-read.ensures, c.in-None.is)
+returns c = rw (read_is _ _ c.read_line.ensures, c.in_ok-line.was) c.judge_line.ensures

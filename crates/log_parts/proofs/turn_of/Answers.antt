@@ -2,18 +2,14 @@
 use Rattle.log_parts.specs.Turns.{turn_of}
 use Rattle.log_parts.proofs.turn_of.Goals as goal
 
-pub returns-in-Nothing-second : goal.returns-in-Nothing-second
+pub returns-in-None-None : goal.returns-in-None-None
 unfolding turn_of
-returns-in-Nothing-second c = rw (c.in-Nothing.is, c.in-Nothing-second.is)
+returns-in-None-None c = rw (c.in-None-None.is-0, c.in-None-None.is-1)
 
-pub returns-in-At-second : goal.returns-in-At-second
+pub returns-in-None-Some : goal.returns-in-None-Some
 unfolding turn_of
-returns-in-At-second c = rw (c.in-Nothing.is, c.in-At-second.is)
+returns-in-None-Some c = rw (c.in-None-Some.is-0, c.in-None-Some.is-1)
 
-pub returns-in-Nothing-second-2 : goal.returns-in-Nothing-second-2
+pub returns-in-Some-None : goal.returns-in-Some-None
 unfolding turn_of
-returns-in-Nothing-second-2 c = rw (c.in-At.is, c.in-Nothing-second-2.is)
-
-pub returns-in-At-second-2 : goal.returns-in-At-second-2
-unfolding turn_of
-returns-in-At-second-2 c = rw (c.in-At.is, c.in-At-second-2.is, ← c.same_text-same.ensures) c.of_pair.ensures
+returns-in-Some-None c = rw (c.in-Some-None.is-0, c.in-Some-None.is-1)

@@ -4,10 +4,10 @@ use Rattle.log_report.proofs.Lengths.{put_nothing}
 use Rattle.log_report.specs.Texts.{section_text}
 use Rattle.log_report.proofs.put_section.Goals as goal
 
-pub returns-in-Alike : goal.returns-in-Alike
+pub returns-in-None : goal.returns-in-None
 unfolding section_text
-returns-in-Alike c = rw c.in-Alike.is (put_nothing _ _)
+returns-in-None c = rw c.in-None.is (put_nothing _ _)
 
-pub returns-in-Differ : goal.returns-in-Differ
+pub returns-in-Some : goal.returns-in-Some
 unfolding section_text
-returns-in-Differ c = rw c.in-Differ.is (then c.put-next.ensures c.put_pair.ensures)
+returns-in-Some c = rw c.in-Some.is (then c.put-next.ensures c.put_pair.ensures)

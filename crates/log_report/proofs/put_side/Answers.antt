@@ -2,10 +2,10 @@
 use Rattle.log_report.specs.Texts.{side_words}
 use Rattle.log_report.proofs.put_side.Goals as goal
 
-pub returns-in-Nothing : goal.returns-in-Nothing
+pub returns-in-None : goal.returns-in-None
 unfolding side_words
-returns-in-Nothing c = rw c.in-Nothing.is c.put.ensures
+returns-in-None c = rw c.in-None.is c.put.ensures
 
-pub returns-in-There : goal.returns-in-There
+pub returns-in-Some : goal.returns-in-Some
 unfolding side_words
-returns-in-There c = rw c.in-There.is c.put_line.ensures
+returns-in-Some c = rw c.in-Some.is c.put_line.ensures

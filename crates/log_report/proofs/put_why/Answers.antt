@@ -6,8 +6,8 @@ use Rattle.log_report.proofs.put_why.Goals as goal
 
 pub returns-in-Some : goal.returns-in-Some
 unfolding why_text
-returns-in-Some c = rw (read_is _ _ c.read_line-read.ensures, c.in-Some.is) c.put.ensures
+returns-in-Some c = rw (read_is _ _ c.read_line.ensures, c.in-Some.is) c.put.ensures
 
 pub returns-in-None : goal.returns-in-None
 unfolding why_text
-returns-in-None c = rw (read_is _ _ c.read_line-read.ensures, c.in-None.is) (put_nothing _ _)
+returns-in-None c = rw (read_is _ _ c.read_line.ensures, c.in-None.is) (put_nothing _ _)

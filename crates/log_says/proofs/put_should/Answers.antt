@@ -2,9 +2,9 @@
 use Rattle.log_says.specs.Says.{should_text}
 use Rattle.log_says.proofs.put_should.Goals as goal
 
-pub returns-in-Line : goal.returns-in-Line
-returns-in-Line c = rw c.in-Line.is c.put_right.ensures
+pub returns-in-Some : goal.returns-in-Some
+returns-in-Some c = rw c.in-Some.is c.put_right.ensures
 
-pub returns-in-Nothing : goal.returns-in-Nothing
+pub returns-in-None : goal.returns-in-None
 unfolding should_text
-returns-in-Nothing c = rw c.in-Nothing.is c.put.ensures
+returns-in-None c = rw c.in-None.is c.put.ensures

@@ -2,10 +2,10 @@
 use Rattle.log_passes.specs.Judging.{judged_as}
 use Rattle.log_passes.proofs.judging.judged_as.Goals as goal
 
-pub returns-in-Good : goal.returns-in-Good
+pub returns-in-Some : goal.returns-in-Some
 unfolding judged_as
-returns-in-Good c = rw (c.in-Good.is, ← c.next_long_count.ensures)
+returns-in-Some c = rw (c.in-Some.is, ← c.next_long_count.ensures)
 
-pub returns-in-Strange : goal.returns-in-Strange
+pub returns-in-None : goal.returns-in-None
 unfolding judged_as
-returns-in-Strange c = rw c.in-Strange.is c.look_at.ensures
+returns-in-None c = rw c.in-None.is c.look_at.ensures

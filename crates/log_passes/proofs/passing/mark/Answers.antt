@@ -1,7 +1,8 @@
 -- `log_passes::passing::mark` meets its contract.
 use Rattle.log_passes.specs.Passing.{marked}
+use Rattle.log_passes.proofs.Sides.{first_or}
 use Rattle.log_passes.proofs.passing.mark.Goals as goal
 
 pub returns : goal.returns
 unfolding marked
-returns c = rw (← c.next_long_count.ensures, ← c.or_else.ensures)
+returns c = rw (← c.next_long_count.ensures, ← first_or, c.or.ensures)

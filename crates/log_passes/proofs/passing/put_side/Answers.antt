@@ -3,10 +3,10 @@ use mathlib.Core.Path.{refl}
 use Rattle.log_passes.specs.Passing.{side_text}
 use Rattle.log_passes.proofs.passing.put_side.Goals as goal
 
-pub returns-in-Nothing : goal.returns-in-Nothing
+pub returns-in-None : goal.returns-in-None
 unfolding side_text
-returns-in-Nothing c = rw c.in-Nothing.is (record { bytes = refl; place = refl })
+returns-in-None c = rw c.in-None.is (record { bytes = refl; place = refl })
 
-pub returns-in-There : goal.returns-in-There
+pub returns-in-Some : goal.returns-in-Some
 unfolding side_text
-returns-in-There c = rw c.in-There.is c.put_line.ensures
+returns-in-Some c = rw c.in-Some.is c.put_line.ensures

@@ -24,4 +24,4 @@ unfolding turn_at
 returns c =
     let text = front c.put_side-m.ensures (omega (arith, side_short c.args.first, c.put_side-m.ensures.place, c.put_side-m.auto.out)) in
     let other = front c.put_side-n.ensures (omega (arith, side_short c.args.second, c.put_side-n.ensures.place, c.put_side-n.auto.out)) in
-    rw (← c.front_at-f.ensures, ← c.front_at-s.ensures, ← text, ← other) c.turn_of.ensures
+    rw (← c.front_at.ensures, ← c.front_at-2.ensures, ← text, ← other) c.turn_of.ensures

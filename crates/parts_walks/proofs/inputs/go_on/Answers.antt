@@ -8,11 +8,11 @@ refill_first-requires c = (both_within _ _ _ _ c.past-rest.ensures, c.requires.1
 pub refill_second-requires : goal.refill_second-requires
 refill_second-requires c = (both_within _ _ _ _ c.past-rest.ensures, c.requires.2)
 
-pub returns-in-Neither : goal.returns-in-Neither
-returns-in-Neither c = c.past-rest.ensures _ _
+pub returns-in-None : goal.returns-in-None
+returns-in-None c = c.past-rest.ensures _ _
 
-pub returns-in-First : goal.returns-in-First
-returns-in-First c = then_both _ _ _ _ _ _ _ _ _ (c.past-rest.ensures _ _) (c.refill_first.ensures _)
+pub returns-in-Some-First : goal.returns-in-Some-First
+returns-in-Some-First c = then_both _ _ _ _ _ _ _ _ _ (c.past-rest.ensures _ _) (c.refill_first.ensures _)
 
-pub returns-in-Second : goal.returns-in-Second
-returns-in-Second c = then_both _ _ _ _ _ _ _ _ _ (c.past-rest.ensures _ _) (c.refill_second.ensures _)
+pub returns-in-Some-Second : goal.returns-in-Some-Second
+returns-in-Some-Second c = then_both _ _ _ _ _ _ _ _ _ (c.past-rest.ensures _ _) (c.refill_second.ensures _)

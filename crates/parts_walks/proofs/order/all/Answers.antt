@@ -3,17 +3,17 @@ use mathlib.Core.Path.{refl, ◌∙◌}
 use Rattle.parts_walks.proofs.Ordering.{begun, goes_on}
 use Rattle.parts_walks.proofs.order.all.Goals as goal
 
-pub loop-turns-init : goal.loop-turns-init
-loop-turns-init c =
+pub loop-init : goal.loop-init
+loop-init c =
     (c.requires.0, refl, refl, c.requires.1, c.requires.2, begun _ _ _)
 
 pub returns-then-not-goes_on : goal.returns-then-not-goes_on
-returns-then-not-goes_on c = c.loop-turns.invariant.5
+returns-then-not-goes_on c = c.loop.invariant.5
 
-pub loop-turns-preserved : goal.loop-turns-preserved
-loop-turns-preserved c =
+pub loop-preserved : goal.loop-preserved
+loop-preserved c =
     let turn = c.turn-walk in
-    let loop = c.loop-turns in
+    let loop = c.loop in
     let done = turn.ensures.done in
     let first = turn.auto.first in
     let second = turn.auto.second in (
@@ -26,4 +26,4 @@ loop-turns-preserved c =
     )
 
 pub returns : goal.returns
-returns c = c.loop-turns.invariant.5
+returns c = c.loop.invariant.5

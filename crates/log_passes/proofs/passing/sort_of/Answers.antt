@@ -1,6 +1,6 @@
--- `log_passes::passing::rank_of` meets its contract.
+-- `log_passes::passing::sort_of` meets its contract.
 use Rattle.log_parts.specs.Sorts.{sort_of}
-use Rattle.log_passes.proofs.passing.rank_of.Goals as goal
+use Rattle.log_passes.proofs.passing.sort_of.Goals as goal
 
 pub returns-in-Replay : goal.returns-in-Replay
 unfolding sort_of
