@@ -34,10 +34,7 @@ fn fills(g: Geometry, n: Near) -> bool
     requires { (n.count < g.decimation) × (n.len < g.frame) }
     ensures { result ≡ Ready.fills g n }
 {
-    if n.count + 1 != g.decimation {
-        return false;
-    }
-    n.len + 1 == g.frame
+    n.count + 1 == g.decimation && n.len + 1 == g.frame
 }
 
 // A sample passes in a state that was judged.
@@ -45,20 +42,11 @@ fn passable(g: Geometry, n: Near, sample: f32, index: u64) -> bool
     requires { (n.count < g.decimation) × (n.len < g.frame) }
     ensures { result ≡ Ready.passable g n sample index }
 {
-    if !floats::is_finite(n.sum) {
-        return false;
-    }
-    if index >= answers::LIMIT {
+    if !floats::is_finite(n.sum) || index >= answers::LIMIT {
         return false;
     }
     let held = near::held_at(n, index);
-    if near::dropped(g, held, index) {
-        return true;
-    }
-    if !floats::is_finite32(sample) {
-        return false;
-    }
-    !fills(g, held)
+    near::dropped(g, held, index) || floats::is_finite32(sample) && !fills(g, held)
 }
 
 // What a sample that passes leaves.
@@ -80,10 +68,8 @@ fn total(sum: f64, samples: &[f32]) -> f64
     ensures { result ≡ total_of sum samples.now }
 {
     let mut total = sum;
-    let mut i = 0;
-    while i < samples.len() {
-        total = total + floats::magnitude(std::num::f32_to_f64_with_nan(samples[i]));
-        i += 1;
+    for &sample in samples {
+        total += floats::magnitude(f64::from(sample));
     }
     total
 }
@@ -92,7 +78,7 @@ fn stretch(n: Near, samples: &[f32]) -> Near
     requires { (n.count + length samples.now < 2 ^ 64) × (0 < length samples.now → n.last + length samples.now < 2 ^ 64) }
     ensures { result ≡ stretched n samples.now }
 {
-    if samples.len() == 0 {
+    if samples.is_empty() {
         return n;
     }
     let sum = total(n.sum, samples);
@@ -100,11 +86,10 @@ fn stretch(n: Near, samples: &[f32]) -> Near
         return n;
     }
     Near {
-        len: n.len,
         sum,
         count: n.count + samples.len() as u64,
-        first: n.first,
         last: n.last + samples.len() as u64,
+        ..n
     }
 }
 
@@ -113,20 +98,14 @@ fn reach(g: Geometry, n: Near, index: u64, left: usize) -> usize
     requires { (n.count < g.decimation) × (g.decimation ≤ 192) × (0 < left) }
     ensures { Reaches g n index left result }
 {
-    if rules::idle(n) {
-        return 0;
-    }
-    if !near::follows(n.last, index) {
+    if rules::idle(n) || !near::follows(n.last, index) {
         return 0;
     }
     let block = g.decimation - 1 - n.count;
     if index >= answers::LIMIT - block {
         return 0;
     }
-    if block < left as u64 {
-        return block as usize;
-    }
-    left - 1
+    (block as usize).min(left - 1)
 }
 
 // ---- the run
@@ -136,6 +115,7 @@ pub fn walk(g: Geometry, before: Near, levels: &mut [f32], samples: &[f32], firs
     requires { OpenNear g before levels.old }
     ensures { (f : Far) (v : Verdict) → Open (scan_of g f before v) levels.old → ◌≡◌ {A = Run} (record { scan = scan_of g f result.near v; levels = levels.new; passed = result.passed }) (ran (scan_of g f before v) levels.old samples.now first) }
 {
+    // `i` is what the run answers, and a turn may go on by many samples: the rest as a slice would need this count beside it.
     let mut near = before;
     let mut index = first;
     let mut i = 0;
@@ -163,26 +143,23 @@ pub fn push_near_run(scan: Scan, levels: &mut [f32], samples: &[f32], first: u64
     ensures levels { levels.new ≡ (ran scan levels.old samples.now first).levels }
 {
     let g = scan.geometry;
-    let near = scan.near;
-    let verdict = scan.verdict;
     let due = rules::geometry_of(g.rate, g.ceiling);
     let n = rules::first_refusals(scan, due, levels.len() as u64 == due.frame);
     if n != 0 {
         return Ran { scan, passed: 0 };
     }
-    if rules::finished(verdict) {
+    if rules::finished(scan.verdict) {
         return Ran {
             scan,
             passed: samples.len(),
         };
     }
-    if near.len == g.frame {
+    if scan.near.len == g.frame {
         return Ran { scan, passed: 0 };
     }
-    let walked = walk(g, near, levels, samples, first);
-    let after = walked.near;
+    let walked = walk(g, scan.near, levels, samples, first);
     Ran {
-        scan: parts::with_near(scan, after),
+        scan: parts::with_near(scan, walked.near),
         passed: walked.passed,
     }
 }

@@ -8,26 +8,10 @@ returns-then-idle c =
     let p = c.requires in
     record { within = omega (arith, p); partial = omega (arith, p); small = λ z. absurd (omega arith); underway = λ z. absurd (omega arith); follows = λ z. absurd (omega arith) }
 
-pub returns-then-not-follows : goal.returns-then-not-follows
-returns-then-not-follows c =
-    let p = c.requires in
-    record { within = omega (arith, p); partial = omega (arith, p); small = λ z. absurd (omega arith); underway = λ z. absurd (omega arith); follows = λ z. absurd (omega arith) }
-
 pub returns-then-index-block : goal.returns-then-index-block
 returns-then-index-block c =
     let p = c.requires in
     record { within = omega (arith, p); partial = omega (arith, p); small = λ z. absurd (omega arith); underway = λ z. absurd (omega arith); follows = λ z. absurd (omega arith) }
-
-pub returns-then-block-left : goal.returns-then-block-left
-returns-then-block-left c =
-    let p = c.requires in
-    record {
-      within = omega (arith, p);
-      partial = omega (arith, p);
-      small = λ z. omega (arith, p);
-      underway = λ z. sym c.idle.ensures ∙ c.if-idle.false;
-      follows = λ z. eqb-true _ _ (sym c.follows.ensures ∙ not-false _ c.if-not-follows.false-raw);
-    }
 
 pub returns : goal.returns
 returns c =
