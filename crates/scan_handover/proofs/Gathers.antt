@@ -8,8 +8,8 @@ use native.Mathlib.Nat.{add-zero, zero-add, add-mul, mul-le-mul_right}
 use native.Mathlib.Numerals.{add-one}
 use native.Mathlib.Omega.{arith}
 use lib.Dec.{eqb}
-use lib.ListN.{length, take, drop, set, take-append-drop, drop_of_length-le, length-append, length-take, length-drop}
-use lib.Seq.{drop-cons, drop-drop, length-take-le}
+use lib.ListN.{length, take, drop, set, drop_of_length-le, length-append, length-take, length-drop}
+use lib.Seq.{drop-cons, length-take-le}
 use lib.Ieee.{Float, nan}
 use lib.Ieee.Scale.{finite}
 use borrow.Author.Tests.{eq-eqb, ne_eqb}
@@ -237,50 +237,38 @@ unfolding gather_all
 ready_rest g t [] ys index r = subst (Ready g t ys) (omega arith) r
 ready_rest g t (x ∷ xs) ys index r = subst (Ready g (gather_all g (gather g t x index) xs (index + 1)) ys) (omega arith) (ready_rest g (gather g t x index) xs ys (index + 1) (ready_next g t x (xs ++ ys) index r))
 
--- ---- the loop: after i samples of a run on t₀ the near side is t
+-- ---- the loop: the near side is t, and what is left of a run on t₀ leaves from here on what the whole run leaves
 
-pub record Going (g : Geometry) (t₀ : Seen) (xs : List Float) (index : ℕ) (t : Seen) (i : ℕ) : Type 0 where
-  pub within : i ≤ length xs
-  pub left : Ready g t (drop i xs) (index + i)
-  pub whole : gather_all g t (drop i xs) (index + i) ≡ gather_all g t₀ xs index
+pub record Going (g : Geometry) (t₀ : Seen) (xs : List Float) (index : ℕ) (t : Seen) (rest : List Float) (at : ℕ) : Type 0 where
+  pub left : Ready g t rest at
+  pub whole : gather_all g t rest at ≡ gather_all g t₀ xs index
 
 module _ (g : Geometry) (t₀ : Seen) (xs : List Float) (index : ℕ) where
-  pub starts : Ready g t₀ xs index → Going g t₀ xs index t₀ 0
-  starts r = record { within = omega arith; left = subst (Ready g t₀ xs) (sym (add-zero index)) r; whole = ap (gather_all g t₀ xs) (add-zero index) }
+  pub starts : Ready g t₀ xs index → Going g t₀ xs index t₀ xs index
+  starts r = record { left = r; whole = refl }
 
-  pub ends : (t : Seen) (i : ℕ) → length xs ≤ i → Going g t₀ xs index t i → t ≡ gather_all g t₀ xs index
+  pub ends : (t : Seen) (rest : List Float) (at : ℕ) → length rest ≡ 0 → Going g t₀ xs index t rest at → t ≡ gather_all g t₀ xs index
   unfolding gather_all
-  ends t i l k = rw (drop_of_length-le xs l) at k.whole
+  ends t [] at l k = k.whole
+  ends t (x ∷ rest) at l k = absurd (omega arith)
 
-  module _ (t : Seen) (i end : ℕ) (k : Going g t₀ xs index t i) (after : i ≤ end) (within : end ≤ length xs) where
-    pub cut_length : length (take (end - i) (drop i xs)) ≡ end - i
-    cut_length = length-take-le (end - i) (drop i xs) (omega (arith, length-drop i xs))
+  -- the samples that are left are a part and later ones
+  module _ (t : Seen) (rest part later : List Float) (at : ℕ) (k : Going g t₀ xs index t rest at) (parted : rest ≡ part ++ later) where
+    all : Ready g t (part ++ later) at
+    all = subst (λ (ys : List Float). Ready g t ys at) parted k.left
 
-    cut : drop i xs ≡ take (end - i) (drop i xs) ++ drop end xs
-    cut =
-        let n : i + (end - i) ≡ end = omega (arith, after) in
-        sym (take-append-drop (end - i) (drop i xs)) ∙ ap (λ (t : List Float). take (end - i) (drop i xs) ++ t) (drop-drop (end - i) i xs ∙ ap (λ (t : ℕ). drop t xs) n)
+    pub part_ready : Ready g t part at
+    part_ready = ready_front g t part later at all
 
-    all : Ready g t (take (end - i) (drop i xs) ++ drop end xs) (index + i)
-    all = subst (λ (ys : List Float). Ready g t ys (index + i)) cut k.left
-
-    pub part_ready : Ready g t (take (end - i) (drop i xs)) (index + i)
-    part_ready = ready_front g t _ _ (index + i) all
-
-    place : index + i + length (take (end - i) (drop i xs)) ≡ index + end
-    place = omega (arith, cut_length, after)
-
-    pub part_gathered : (n : Near) (levels : List Float) → n ≡ (gather_all g t (take (end - i) (drop i xs)) (index + i)).near → levels ≡ (gather_all g t (take (end - i) (drop i xs)) (index + i)).levels
-        → Going g t₀ xs index (record { near = n; levels = levels }) end
+    pub part_gathered : (n : Near) (levels : List Float) → n ≡ (gather_all g t part at).near → levels ≡ (gather_all g t part at).levels
+        → Going g t₀ xs index (record { near = n; levels = levels }) later (at + length part)
     part_gathered n levels p q =
-        let same : ◌≡◌ {A = Seen} (record { near = n; levels = levels }) (gather_all g t (take (end - i) (drop i xs)) (index + i)) = rw (p, q) in
+        let same : ◌≡◌ {A = Seen} (record { near = n; levels = levels }) (gather_all g t part at) = rw (p, q) in
         record {
-          within = within;
-          left = subst (λ (u : Seen). Ready g u (drop end xs) (index + end)) (sym same) (subst (Ready g (gather_all g t (take (end - i) (drop i xs)) (index + i)) (drop end xs)) place (ready_rest g t _ _ (index + i) all));
+          left = subst (λ (u : Seen). Ready g u later (at + length part)) (sym same) (ready_rest g t part later at all);
           whole =
-              ap (λ (u : Seen). gather_all g u (drop end xs) (index + end)) same
-              ∙ ap (gather_all g (gather_all g t (take (end - i) (drop i xs)) (index + i)) (drop end xs)) (sym place)
-              ∙ sym (gather_join g t (take (end - i) (drop i xs)) (drop end xs) (index + i))
-              ∙ ap (λ (ys : List Float). gather_all g t ys (index + i)) (sym cut)
+              ap (λ (u : Seen). gather_all g u later (at + length part)) same
+              ∙ sym (gather_join g t part later at)
+              ∙ ap (λ (ys : List Float). gather_all g t ys at) (sym parted)
               ∙ k.whole;
         }

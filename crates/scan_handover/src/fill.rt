@@ -28,11 +28,11 @@ fn block(g: Geometry, n: Near, levels: &mut [f32], samples: &[f32], index: u64) 
     let last = index + samples.len() as u64 - 1;
     if count != g.decimation {
         return Near {
-            len: n.len,
             sum,
             count,
             first,
             last,
+            ..n
         };
     }
     let bin = n.len;
@@ -88,16 +88,11 @@ fn reach(g: Geometry, n: Near, left: usize) -> usize
     requires { (n.count < g.decimation) × (g.decimation ≤ 192) × (0 < left) }
     ensures { Reach g n left result }
 {
-    if n.count == 0 {
-        if 4 * g.decimation <= left as u64 {
-            return 4 * g.decimation as usize;
-        }
+    if n.count == 0 && 4 * g.decimation <= left as u64 {
+        return 4 * g.decimation as usize;
     }
     let rest = (g.decimation - n.count) as usize;
-    if rest < left {
-        return rest;
-    }
-    left
+    rest.min(left)
 }
 
 fn all(g: Geometry, near: Near, levels: &mut [f32], samples: &[f32], index: u64) -> Near
@@ -106,11 +101,13 @@ fn all(g: Geometry, near: Near, levels: &mut [f32], samples: &[f32], index: u64)
     ensures levels { levels.new ≡ (gather_all g (record { near = near; levels = levels.old }) samples.now index).levels }
 {
     let mut n = near;
-    let mut i = 0;
-    while i < samples.len() {
-        let end = i + reach(g, n, samples.len() - i);
-        n = run(g, n, levels, &samples[i..end], index + i as u64);
-        i = end;
+    let mut rest = samples;
+    let mut at = index;
+    while !rest.is_empty() {
+        let (part, later) = rest.split_at(reach(g, n, rest.len()));
+        n = run(g, n, levels, part, at);
+        at += part.len() as u64;
+        rest = later;
     }
     n
 }

@@ -66,8 +66,7 @@ fn hand_over(scan: Scan, levels: &mut [f32], samples: &[f32], first: u64) -> Han
     ensures levels { levels.new ≡ (Handover.handed scan levels.old samples.now first).levels }
 {
     let g = scan.geometry;
-    let found = scan.near;
-    let held = near::held_at(found, first);
+    let held = near::held_at(scan.near, first);
     let lead = part::lead(g, held, first);
     let end = part::takes(g, held, lead, samples.len());
     let n = part::refusal(samples, first, lead, end);
@@ -93,14 +92,13 @@ pub fn push_near_run(scan: Scan, levels: &mut [f32], samples: &[f32], first: u64
             answer: RunTaking::Refused(n),
         };
     }
-    if samples.len() == 0 {
+    if samples.is_empty() {
         return Handed {
             scan,
             answer: RunTaking::Taken(0),
         };
     }
-    let verdict = scan.verdict;
-    if rules::finished(verdict) {
+    if rules::finished(scan.verdict) {
         return Handed {
             scan,
             answer: RunTaking::Ignored(samples.len()),

@@ -37,7 +37,7 @@ pub fn takes(g: Geometry, n: Near, lead: usize, samples: usize) -> usize
     requires { Wants g n × (lead ≤ 192) }
     ensures { result ≡ min samples (lead + Handover.wants g n) }
 {
-    answers::smaller(samples as u64, lead as u64 + wants(g, n)) as usize
+    (samples as u64).min(lead as u64 + wants(g, n)) as usize
 }
 
 // Samples from one place up to another: none where the one is not before the other.
@@ -45,10 +45,7 @@ fn finite_between(samples: &[f32], from: usize, end: usize) -> bool
     requires { end ≤ length samples.now }
     ensures { result ≡ all_finite (drop from (take end samples.now)) }
 {
-    if end <= from {
-        return true;
-    }
-    folds::all_finite(&samples[from..end])
+    end <= from || folds::all_finite(&samples[from..end])
 }
 
 // 5 and 4, over the part that would be taken.

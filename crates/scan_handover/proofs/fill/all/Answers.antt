@@ -1,67 +1,58 @@
 -- `scan_handover::fill::all` meets its contract: the invariant is `Going`.
-use Prim.Native.Nat.{ℕ, ◌+◌, ◌-◌}
-use mathlib.Core.Path.{◌≡◌, refl, sym, ◌∙◌, subst}
+use Prim.Native.Nat.{ℕ}
+use mathlib.Core.Path.{◌≡◌, refl, sym, subst}
 use native.Mathlib.Omega.{arith}
+use lib.ListN.{length}
+use Rattle.std.proofs.lemmas.Bool.Decides.{nat_tests}
 use Rattle.scan_handover.specs.Ready.{NearShaped}
-use Rattle.scan_handover.proofs.Gathers.{starts, ends, cut_length, part_ready, part_gathered}
+use Rattle.scan_handover.proofs.Gathers.{starts, ends, part_ready, part_gathered}
 use Rattle.scan_handover.proofs.fill.all.Goals as goal
 
-pub loop-i-init : goal.loop-i-init
-loop-i-init c =
+pub loop-rest-init : goal.loop-rest-init
+loop-rest-init c =
     (refl, starts c.args.g (record { near = c.args.near; levels = c.args.levels.now }) c.args.samples.now c.args.index c.requires)
 
 pub reach-requires : goal.reach-requires
 reach-requires c =
-    let k = c.loop-i.invariant.1.left in
-    (k.partial, k.bounds.decimation, omega arith)
-
-pub overflow_add-end : goal.overflow_add-end
-overflow_add-end c = omega (arith, c.reach.ensures.within)
-
-pub slice_bounds-run-start : goal.slice_bounds-run-start
-slice_bounds-run-start c = omega (arith, c.reach.ensures.within)
-
-pub slice_bounds-run-end : goal.slice_bounds-run-end
-slice_bounds-run-end c = omega (arith, c.reach.ensures.within)
-
-pub overflow_add-index : goal.overflow_add-index
-overflow_add-index c = omega (arith, c.loop-i.invariant.1.left.small)
+    let k = c.loop-rest.invariant.1.left in
+    (k.partial, k.bounds.decimation, grind (arith, nat_tests))
 
 pub run-n-requires : goal.run-n-requires
 run-n-requires c =
     let a = c.args in
-    let l = c.loop-i in
-    let r = c.reach in
-    let end = l.i + r.result in
-    let n : end - l.i ≡ r.result = omega arith in
-    let size = cut_length a.g (record { near = a.near; levels = a.levels.now }) a.samples.now a.index (record { near = l.n; levels = l.levels }) l.i end l.invariant.1 (omega arith) (omega (arith, r.ensures.within)) in
+    let l = c.loop-rest in
+    let s = c.split_at in
     record {
-      all = part_ready a.g (record { near = a.near; levels = a.levels.now }) a.samples.now a.index (record { near = l.n; levels = l.levels }) l.i end l.invariant.1 (omega arith) (omega (arith, r.ensures.within));
-      some = omega (arith, size, r.ensures.some);
-      shaped = subst (λ (k : ℕ). NearShaped a.g l.n k) (sym (size ∙ n)) r.ensures.shaped;
+      all = part_ready a.g (record { near = a.near; levels = a.levels.now }) a.samples.now a.index (record { near = l.n; levels = l.levels }) l.rest.now s.result.0.now s.result.1.now l.at l.invariant.1 s.ensures.by_index.0;
+      some = omega (arith, s.ensures.front_len, c.reach.ensures.some);
+      shaped = subst (λ (k : ℕ). NearShaped a.g l.n k) (sym s.ensures.front_len) c.reach.ensures.shaped;
     }
 
-pub loop-i-smaller : goal.loop-i-smaller
-loop-i-smaller c = let r = c.reach in omega (arith, r.ensures.some, r.ensures.within)
+pub overflow_add-at : goal.overflow_add-at
+overflow_add-at c = omega (arith, c.loop-rest.invariant.1.left.small, c.split_at.ensures.front_len, c.split_at.ensures.back_len)
 
-pub loop-i-preserved : goal.loop-i-preserved
-loop-i-preserved c =
+pub loop-rest-smaller : goal.loop-rest-smaller
+loop-rest-smaller c = omega (arith, c.reach.ensures.some, c.split_at.ensures.back_len)
+
+pub loop-rest-preserved : goal.loop-rest-preserved
+loop-rest-preserved c =
     let a = c.args in
-    let l = c.loop-i in
-    let r = c.reach in
+    let l = c.loop-rest in
+    let s = c.split_at in
     let k = c.run-n in (
       omega (arith, l.invariant.0, k.auto),
-      part_gathered a.g (record { near = a.near; levels = a.levels.now }) a.samples.now a.index (record { near = l.n; levels = l.levels }) l.i (l.i + r.result) l.invariant.1 (omega arith) (omega (arith, r.ensures.within)) _ _ k.ensures.near k.ensures.levels,
+      part_gathered a.g (record { near = a.near; levels = a.levels.now }) a.samples.now a.index (record { near = l.n; levels = l.levels }) l.rest.now s.result.0.now s.result.1.now l.at l.invariant.1 s.ensures.by_index.0 _ _ k.ensures.near k.ensures.levels,
     )
 
 pub shape_of-levels : goal.shape_of-levels
-shape_of-levels c = c.loop-i.invariant.0
+shape_of-levels c = c.loop-rest.invariant.0
 
 pub returns : goal.returns
 returns c =
     let a = c.args in
-    let l = c.loop-i in
-    let e = ends a.g (record { near = a.near; levels = a.levels.now }) a.samples.now a.index (record { near = l.n; levels = l.levels }) l.i (omega arith) l.invariant.1 in
+    let l = c.loop-rest in
+    let none : length l.rest.now ≡ 0 = grind (arith, nat_tests) in
+    let e = ends a.g (record { near = a.near; levels = a.levels.now }) a.samples.now a.index (record { near = l.n; levels = l.levels }) l.rest.now l.at none l.invariant.1 in
     record {
       near = rw (← e);
       levels = rw (← e);
