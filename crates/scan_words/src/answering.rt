@@ -23,9 +23,7 @@ pub fn settle_change(state: &mut [u64], changed: Changed) -> u32
     ensures number { result ≡ number (change_told changed.answer) }
     ensures words { state.new ≡ changed_words state.old changed }
 {
-    let scan = changed.scan;
-    let answer = changed.answer;
-    storing::settle(state, words::change_number(answer), scan)
+    storing::settle(state, words::change_number(changed.answer), changed.scan)
 }
 
 pub fn taking_number(answer: Taking) -> u32

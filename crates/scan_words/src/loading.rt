@@ -64,10 +64,8 @@ fn are_cases(state: &[u64]) -> bool
     requires { length state.now ≡ scan_words }
     ensures { result ≡ are_cases state.now }
 {
-    if !words::all_below(0x1_0000_0000, state[16], state[17], state[18]) {
-        return false;
-    }
-    words::all_below(2, state[19], state[22], state[23])
+    words::all_below(0x1_0000_0000, state[16], state[17], state[18])
+        && words::all_below(2, state[19], state[22], state[23])
 }
 
 fn load_banked(state: &[u64]) -> u32

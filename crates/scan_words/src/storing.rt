@@ -65,27 +65,22 @@ pub fn store_verdict(state: &mut [u64], v: Verdict)
     let last = words::pattern32(words::half(state[18], 0), v.last);
     let beyond = words::flag(v.beyond);
     let exhausted = words::flag(v.exhausted);
-    let found = v.found;
     state[16] = v.banked as u64;
     state[17] = v.frames as u64;
     state[18] = last as u64;
     state[22] = beyond;
     state[23] = exhausted;
-    store_found(state, found);
+    store_found(state, v.found);
 }
 
 fn store(state: &mut [u64], scan: Scan)
     requires { length state.old ≡ scan_words }
     ensures { state.new ≡ stored state.old scan }
 {
-    let geometry = scan.geometry;
-    let far = scan.far;
-    let near = scan.near;
-    let verdict = scan.verdict;
-    store_geometry(state, geometry);
-    store_far(state, far);
-    store_near(state, near);
-    store_verdict(state, verdict);
+    store_geometry(state, scan.geometry);
+    store_far(state, scan.far);
+    store_near(state, scan.near);
+    store_verdict(state, scan.verdict);
 }
 
 // What a call leaves in the words, nothing new where it was refused; and the call's number.

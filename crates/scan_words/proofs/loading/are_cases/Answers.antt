@@ -3,10 +3,10 @@ use Rattle.answers.proofs.Cases.{cases}
 use Rattle.scan_words.specs.Layout.{are_cases}
 use Rattle.scan_words.proofs.loading.are_cases.Goals as goal
 
-pub returns-then-not-all_below : goal.returns-then-not-all_below
+pub returns-then-all_below : goal.returns-then-all_below
 unfolding are_cases
-returns-then-not-all_below c = search (cases, ← c.all_below.ensures)
+returns-then-all_below c = search (cases, ← c.all_below.ensures, ← c.all_below-then-all_below.ensures)
 
-pub returns : goal.returns
+pub returns-else-all_below : goal.returns-else-all_below
 unfolding are_cases
-returns c = search (cases, ← c.all_below.ensures, ← c.all_below-2.ensures)
+returns-else-all_below c = search (cases, ← c.all_below.ensures)
