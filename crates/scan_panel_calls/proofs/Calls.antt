@@ -3,12 +3,10 @@ use Prim.Native.Nat.{ℕ}
 use mathlib.Core.Path.{◌≡◌, refl, sym, ap, ◌∙◌}
 use mathlib.Core.List.{List}
 use mathlib.Core.Bool.{Bool, true, false, not}
-use lib.Dec.{eqb}
 use lib.Ieee.{Float}
-use borrow.Author.Tests.{eq-eqb, ne_eqb, not-true, not-false}
+use borrow.Author.Tests.{not-true, not-false}
 use Rattle.answers.specs.Pick.{pick, pick_true, pick_false}
 use Rattle.answers.specs.Refusals.{outside_table}
-use Rattle.answers.specs.Numbers.{within}
 use Rattle.answers.specs.declared.Change.TheVariants as change
 use Rattle.scan.specs.State.{World, new_scan}
 use Rattle.scan.specs.Calls.{Restart, restart, changed_by, making_refusal, made, was_reset, FarPush, pushed_far, untaken, pushed_near, Observation, observed, Clearing, rearmed, discarded}
@@ -22,22 +20,6 @@ use Rattle.scan_handover.specs.declared.RunTaking.TheVariants as run
 use Rattle.scan_panel.specs.Panel.{panel_slack, panel_table, allows, panel_making_refusal, panel_made, panel_reset, panel_rearmed, panel_discarded, panel_pushed_far, panel_pushed_near, panel_handed, panel_observed}
 use Rattle.scan_panel.proofs.Panel.{panel_inside}
 use Rattle.scan_panel_calls.specs.Made.{returned_by, panel_returned}
-
--- ---- the table
-
-module _ (rate ceiling : ℕ) where
-  pub at_8000 : rate ≡ 8000 → within 8 320 ceiling ≡ panel_table rate ceiling
-  unfolding panel_table
-  at_8000 e = sym (pick_true _ (within 8 320 ceiling) false (pick_true (eqb rate 8000) true (eqb rate 16000) (eq-eqb rate 8000 e)))
-
-  module _ (other : rate ≡ 8000 → ⊥) where
-    pub at_16000 : rate ≡ 16000 → within 8 320 ceiling ≡ panel_table rate ceiling
-    unfolding panel_table
-    at_16000 e = sym (pick_true _ (within 8 320 ceiling) false (pick_false (eqb rate 8000) true (eqb rate 16000) (ne_eqb rate 8000 other) ∙ eq-eqb rate 16000 e))
-
-    pub at_no_other : (rate ≡ 16000 → ⊥) → false ≡ panel_table rate ceiling
-    unfolding panel_table
-    at_no_other e = sym (pick_false _ (within 8 320 ceiling) false (pick_false (eqb rate 8000) true (eqb rate 16000) (ne_eqb rate 8000 other) ∙ ne_eqb rate 16000 e))
 
 -- ---- a making
 

@@ -19,8 +19,7 @@ pub fn refused(number: u8) -> Changed
 pub fn returned(made: Changed) -> Changed
     ensures { result ≡ panel_returned made }
 {
-    let answer = made.answer;
-    match answer {
+    match made.answer {
         Change::Refused(n) => refused(n),
         Change::Done => made,
     }

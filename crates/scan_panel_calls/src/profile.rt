@@ -9,13 +9,7 @@ use scan::Scan;
 pub fn in_table(rate: u32, ceiling: u32) -> bool
     ensures { result ≡ panel_table rate ceiling }
 {
-    if rate == 8000 {
-        return answers::within(8, 320, ceiling);
-    }
-    if rate == 16000 {
-        return answers::within(8, 320, ceiling);
-    }
-    false
+    (rate == 8000 || rate == 16000) && answers::within(8, 320, ceiling)
 }
 
 // The settings that a state was made with.
