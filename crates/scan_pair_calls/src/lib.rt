@@ -71,12 +71,9 @@ pub fn push_far(pair: Pair, envelope: &mut [f32], samples: &[f32]) -> PairChange
     ensures envelope { envelope.new ≡ (pair_far full_slack pair envelope.old samples.now).envelope }
 {
     let pushed = scan_push::push_far(parts::common(pair), envelope, samples);
-    let next = pushed.scan;
-    let far = next.far;
-    let answer = pushed.answer;
     PairChanged {
-        pair: parts::with_far(pair, far),
-        answer,
+        pair: parts::with_far(pair, pushed.scan.far),
+        answer: pushed.answer,
     }
 }
 
@@ -92,11 +89,9 @@ pub fn push_near(pair: Pair, channel: u32, levels: &mut [f32], sample: f32, inde
         };
     }
     let took = scan_push::push_near(parts::scan_of(pair, channel), levels, sample, index);
-    let next = took.scan;
-    let answer = took.answer;
     PairTook {
-        pair: parts::left_in(pair, channel, next),
-        answer,
+        pair: parts::left_in(pair, channel, took.scan),
+        answer: took.answer,
     }
 }
 
@@ -123,11 +118,9 @@ pub fn push_near_run(
         samples,
         first,
     );
-    let next = handed.scan;
-    let answer = handed.answer;
     PairHanded {
-        pair: parts::left_in(pair, channel, next),
-        answer,
+        pair: parts::left_in(pair, channel, handed.scan),
+        answer: handed.answer,
     }
 }
 
@@ -161,11 +154,9 @@ pub fn observe(
         scores,
         lag_sums,
     );
-    let next = scored.scan;
-    let answer = scored.answer;
     PairScored {
-        pair: parts::left_in(pair, channel, next),
-        answer,
+        pair: parts::left_in(pair, channel, scored.scan),
+        answer: scored.answer,
     }
 }
 
@@ -181,11 +172,9 @@ pub fn rearm(pair: Pair, channel: u32, lag_sums: &mut [f64]) -> PairChanged
         };
     }
     let rearmed = scan_calls::rearm(parts::scan_of(pair, channel), lag_sums);
-    let next = rearmed.scan;
-    let answer = rearmed.answer;
     PairChanged {
-        pair: parts::left_in(pair, channel, next),
-        answer,
+        pair: parts::left_in(pair, channel, rearmed.scan),
+        answer: rearmed.answer,
     }
 }
 
@@ -201,10 +190,8 @@ pub fn discard_near(pair: Pair, channel: u32, lag_sums: &mut [f64]) -> PairChang
         };
     }
     let discarded = scan_calls::discard_near(parts::scan_of(pair, channel), lag_sums);
-    let next = discarded.scan;
-    let answer = discarded.answer;
     PairChanged {
-        pair: parts::left_in(pair, channel, next),
-        answer,
+        pair: parts::left_in(pair, channel, discarded.scan),
+        answer: discarded.answer,
     }
 }

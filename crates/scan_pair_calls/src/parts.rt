@@ -14,24 +14,21 @@ use scan_pair::{Channel, Pair, PairChanged};
 fn as_scan(pair: Pair, channel: Channel) -> Scan
     ensures { result ≡ as_scan pair channel }
 {
-    let geometry = pair.geometry;
-    let far = pair.far;
-    let near = channel.near;
-    let verdict = channel.verdict;
     Scan {
-        geometry,
-        far,
-        near,
-        verdict,
+        geometry: pair.geometry,
+        far: pair.far,
+        near: channel.near,
+        verdict: channel.verdict,
     }
 }
 
 fn channel_of(scan: Scan) -> Channel
     ensures { result ≡ channel_of scan }
 {
-    let near = scan.near;
-    let verdict = scan.verdict;
-    Channel { near, verdict }
+    Channel {
+        near: scan.near,
+        verdict: scan.verdict,
+    }
 }
 
 fn new_channel() -> Channel
@@ -48,11 +45,10 @@ pub fn scan_of(pair: Pair, channel: u32) -> Scan
     ensures { result ≡ scan_of pair (side_of channel) }
 {
     if channel == 0 {
-        let first = pair.first;
-        return as_scan(pair, first);
+        as_scan(pair, pair.first)
+    } else {
+        as_scan(pair, pair.second)
     }
-    let second = pair.second;
-    as_scan(pair, second)
 }
 
 // The common part, with a channel that is new.
@@ -66,38 +62,23 @@ pub fn common(pair: Pair) -> Scan
 pub fn left_in(pair: Pair, channel: u32, scan: Scan) -> Pair
     ensures { result ≡ left_in pair (side_of channel) scan }
 {
-    let geometry = pair.geometry;
-    let far = pair.far;
     if channel == 0 {
-        let second = pair.second;
-        return Pair {
-            geometry,
-            far,
+        Pair {
             first: channel_of(scan),
-            second,
-        };
-    }
-    let first = pair.first;
-    Pair {
-        geometry,
-        far,
-        first,
-        second: channel_of(scan),
+            ..pair
+        }
+    } else {
+        Pair {
+            second: channel_of(scan),
+            ..pair
+        }
     }
 }
 
 pub fn with_far(pair: Pair, far: Far) -> Pair
     ensures { result ≡ pair_with_far pair far }
 {
-    let geometry = pair.geometry;
-    let first = pair.first;
-    let second = pair.second;
-    Pair {
-        geometry,
-        far,
-        first,
-        second,
-    }
+    Pair { far, ..pair }
 }
 
 // A pair as it is made.

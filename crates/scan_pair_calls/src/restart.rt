@@ -18,13 +18,9 @@ fn lengths(
     requires { (g.frame < 2 ^ 62) × (g.span < 2 ^ 62) }
     ensures { result ≡ both_lengths slack g envelope.now first_sums.now second_sums.now }
 {
-    if envelope.len() as u64 != rules::envelope_len(slack, g) {
-        return false;
-    }
-    if first_sums.len() as u64 != rules::lags(g) {
-        return false;
-    }
-    second_sums.len() as u64 == rules::lags(g)
+    envelope.len() as u64 == rules::envelope_len(slack, g)
+        && first_sums.len() as u64 == rules::lags(g)
+        && second_sums.len() as u64 == rules::lags(g)
 }
 
 fn making_refusal(
@@ -119,6 +115,5 @@ pub fn reset(
         return parts::refused(pair, n);
     }
     clear(envelope, first_sums, second_sums);
-    let geometry = pair.geometry;
-    parts::done(parts::as_new(geometry))
+    parts::done(parts::as_new(pair.geometry))
 }

@@ -11,5 +11,5 @@ use Rattle.scan_pair_calls.proofs.parts.left_in.Goals as goal
 pub returns-then-channel-eq0 : goal.returns-then-channel-eq0
 returns-then-channel-eq0 c = ap (λ (k : Channel). with_channel c.args.pair first k) c.channel_of.ensures ∙ sym (ap (λ (d : Side). left_in c.args.pair d c.args.scan) (pick_true _ _ _ (eq-eqb _ _ c.if-channel-eq0.true)))
 
-pub returns : goal.returns
-returns c = ap (λ (k : Channel). with_channel c.args.pair second k) c.channel_of-2.ensures ∙ sym (ap (λ (d : Side). left_in c.args.pair d c.args.scan) (pick_false _ _ _ (ne_eqb _ _ c.if-channel-eq0.false)))
+pub returns-else-channel-eq0 : goal.returns-else-channel-eq0
+returns-else-channel-eq0 c = ap (λ (k : Channel). with_channel c.args.pair second k) c.channel_of-else-channel-eq0.ensures ∙ sym (ap (λ (d : Side). left_in c.args.pair d c.args.scan) (pick_false _ _ _ (ne_eqb _ _ c.if-channel-eq0.false)))

@@ -9,5 +9,5 @@ use Rattle.scan_pair_calls.proofs.parts.scan_of.Goals as goal
 pub returns-then-channel-eq0 : goal.returns-then-channel-eq0
 returns-then-channel-eq0 c = c.as_scan.ensures ∙ sym (ap (λ (d : Side). scan_of c.args.pair d) (pick_true _ _ _ (eq-eqb _ _ c.if-channel-eq0.true)))
 
-pub returns : goal.returns
-returns c = c.as_scan-2.ensures ∙ sym (ap (λ (d : Side). scan_of c.args.pair d) (pick_false _ _ _ (ne_eqb _ _ c.if-channel-eq0.false)))
+pub returns-else-channel-eq0 : goal.returns-else-channel-eq0
+returns-else-channel-eq0 c = c.as_scan-else-channel-eq0.ensures ∙ sym (ap (λ (d : Side). scan_of c.args.pair d) (pick_false _ _ _ (ne_eqb _ _ c.if-channel-eq0.false)))
