@@ -23,9 +23,10 @@ fn load_channel(state: &[u64]) -> Channel
     requires { length state.now ≡ scan_words }
     ensures { result ≡ loaded_channel state.now }
 {
-    let near = loading::load_near(state);
-    let verdict = loading::load_verdict(state);
-    Channel { near, verdict }
+    Channel {
+        near: loading::load_near(state),
+        verdict: loading::load_verdict(state),
+    }
 }
 
 // From the words of each channel: those of channel 0 stand behind the common part.
@@ -33,15 +34,11 @@ fn load_parts(one: &[u64], two: &[u64]) -> Pair
     requires { (length one.now ≡ scan_words) × (length two.now ≡ scan_words) }
     ensures { result ≡ record { geometry = loaded_geometry one.now; far = loaded_far one.now; first = loaded_channel one.now; second = loaded_channel two.now } }
 {
-    let geometry = loading::load_geometry(one);
-    let far = loading::load_far(one);
-    let first = load_channel(one);
-    let second = load_channel(two);
     Pair {
-        geometry,
-        far,
-        first,
-        second,
+        geometry: loading::load_geometry(one),
+        far: loading::load_far(one),
+        first: load_channel(one),
+        second: load_channel(two),
     }
 }
 

@@ -12,10 +12,8 @@ fn store_channel(state: &mut [u64], channel: Channel)
     requires { length state.old ≡ scan_words }
     ensures { state.new ≡ stored_channel state.old channel }
 {
-    let near = channel.near;
-    let verdict = channel.verdict;
-    storing::store_near(state, near);
-    storing::store_verdict(state, verdict);
+    storing::store_near(state, channel.near);
+    storing::store_verdict(state, channel.verdict);
 }
 
 fn store_settings(state: &mut [u64], geometry: Geometry, far: Far)
@@ -49,20 +47,16 @@ fn store_common(state: &mut [u64], pair: Pair)
     requires { length state.old ≡ pair_words }
     ensures { state.new ≡ common_stored state.old pair }
 {
-    let geometry = pair.geometry;
-    let far = pair.far;
-    store_settings(&mut state[0..25], geometry, far);
+    store_settings(&mut state[0..25], pair.geometry, pair.far);
 }
 
 fn store(state: &mut [u64], pair: Pair)
     requires { length state.old ≡ pair_words }
     ensures { state.new ≡ stored_pair state.old pair }
 {
-    let first = pair.first;
-    let second = pair.second;
     store_common(state, pair);
-    store_in(state, 0, first);
-    store_in(state, 1, second);
+    store_in(state, 0, pair.first);
+    store_in(state, 1, pair.second);
 }
 
 // What a call of a channel leaves in the words, nothing new where it was refused; and the call's number.
@@ -75,12 +69,10 @@ pub fn settle_in(state: &mut [u64], number: u32, channel: u32, pair: Pair) -> u3
         return number;
     }
     if channel == 0 {
-        let first = pair.first;
-        store_in(state, channel, first);
+        store_in(state, channel, pair.first);
         return number;
     }
-    let second = pair.second;
-    store_in(state, channel, second);
+    store_in(state, channel, pair.second);
     number
 }
 
@@ -93,8 +85,7 @@ pub fn settle_far(state: &mut [u64], number: u32, pair: Pair) -> u32
     if number < 16 {
         return number;
     }
-    let far = pair.far;
-    store_far(state, far);
+    store_far(state, pair.far);
     number
 }
 
