@@ -32,10 +32,8 @@ fn write_roots(guesses: &[u16], list: &mut [u64])
     requires { Table guesses.now }
     ensures { list.new ≡ roots_of list.old }
 {
-    let mut i = 0;
-    while i < list.len() {
-        list[i] = root_bits_with(guesses, list[i]);
-        i += 1;
+    for number in list.iter_mut() {
+        *number = root_bits_with(guesses, *number);
     }
 }
 
@@ -53,10 +51,7 @@ pub extern "C" fn tmv_square_roots(list: &mut [u64])
 pub extern "C" fn tmv_is_finite(bits: u64) -> u32
     ensures { result ≡ flag_of (finite (of_bits binary64 bits)) }
 {
-    if floats::is_finite(floats::bits::float64(bits)) {
-        return 1;
-    }
-    0
+    u32::from(floats::is_finite(floats::bits::float64(bits)))
 }
 
 // Does the same for an f32.
@@ -64,10 +59,7 @@ pub extern "C" fn tmv_is_finite(bits: u64) -> u32
 pub extern "C" fn tmv_is_finite32(bits: u32) -> u32
     ensures { result ≡ flag_of (finite (of_bits binary32 bits)) }
 {
-    if floats::is_finite32(floats::bits::float32(bits)) {
-        return 1;
-    }
-    0
+    u32::from(floats::is_finite32(floats::bits::float32(bits)))
 }
 
 // Returns the absolute value. A NaN has no pattern on the way through floats, so it keeps the one that it came with, without the sign.

@@ -1,6 +1,5 @@
 -- The loops that test whether every value is finite: `fine` is what the values passed came to.
 use Rattle.std.proofs.Common.{◌≡◌, ℕ, ◌+◌, ◌<◌, ◌≤◌, Bool, true, false, List, length, drop, refl, add-one, drop_of_length-le, drop-cons}
-use mathlib.Core.Bool.{◌&&◌}
 use lib.Ieee.{Float, nan}
 use lib.Ieee.Scale.{finite}
 use Rattle.answers.specs.Pick.{pick, both}
@@ -18,10 +17,14 @@ pub next : (xs : List Float) (i : ℕ) → i < length xs → all_finite (drop i 
 unfolding all_finite
 next xs i h = rw (add-one, drop-cons xs i nan)
 
-pub one_more_tested : (xs : List Float) (i : ℕ) (fine : Bool) → i < length xs → Tested xs i fine → Tested xs (i + 1) (fine && finite (at xs i))
+pub is_finite : (xs : List Float) (i : ℕ) (fine : Bool) → i < length xs → finite (at xs i) ≡ true → Tested xs i fine → Tested xs (i + 1) fine
 unfolding pick
-one_more_tested xs i true h t = rw (next xs i h) at t
-one_more_tested xs i false h t = t
+is_finite xs i fine h e t = rw (next xs i h, e) at t
+
+pub not_finite : (xs : List Float) (i : ℕ) (fine : Bool) → i < length xs → finite (at xs i) ≡ false → Tested xs i fine → Tested xs (i + 1) false
+unfolding pick
+not_finite xs i true h e t = rw (next xs i h, e) at t
+not_finite xs i false h e t = t
 
 pub all_tested : (xs : List Float) (i : ℕ) (fine : Bool) → length xs ≤ i → Tested xs i fine → fine ≡ all_finite xs
 unfolding pick all_finite

@@ -1,6 +1,6 @@
 -- Four values tested at once: a sum that is finite had finite parts.
 use Rattle.std.proofs.Common.{◌≡◌, ℕ, zero, suc, ◌+◌, ◌-◌, ◌<◌, ◌≤◌, Bool, true, false, List, length, take, drop, sym, refl, ap, ◌∙◌, subst, inl, inr, add-one, arith, length-drop, take_all}
-use mathlib.Core.Bool.{◌&&◌, false≢true}
+use mathlib.Core.Bool.{false≢true}
 use lib.Ieee.{Float, nan, inf, fin, Format, binary32, add}
 use lib.Ieee.Scale.{finite}
 use Rattle.answers.specs.Pick.{pick}
@@ -45,14 +45,15 @@ four xs q j h =
     let one = sum_finite binary32 (at xs j) (at xs (q + j)) two.0 in
     record { first = one.0; second = one.1; third = two.1; fourth = three.1 }
 
-pub passes : (xs : List Float) (q i : ℕ) (fine : Bool) → Passed xs q i fine
-    → Passed xs q (i + 1) (fine && finite (add binary32 (add binary32 (add binary32 (at xs i) (at xs (q + i))) (at xs (q + q + i))) (at xs (q + q + q + i))))
-passes xs q i false p t j l = absurd (false≢true t)
-passes xs q i true p t j l =
+pub passes : (xs : List Float) (q i : ℕ) (fine : Bool) → finite (add binary32 (add binary32 (add binary32 (at xs i) (at xs (q + i))) (at xs (q + q + i))) (at xs (q + q + q + i))) ≡ true → Passed xs q i fine → Passed xs q (i + 1) fine
+passes xs q i fine h p t j l =
     elim (le_or_lt i j) [
-      | inl e ↦ subst (Four xs q) (omega arith) (four xs q i t)
-      | inr s ↦ p refl j s
+      | inl e ↦ subst (Four xs q) (omega arith) (four xs q i h)
+      | inr s ↦ p t j s
     ]
+
+pub fails : (xs : List Float) (q i : ℕ) → Passed xs q i false
+fails xs q i t = absurd (false≢true t)
 
 -- ---- all of them
 

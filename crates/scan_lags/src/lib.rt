@@ -50,11 +50,9 @@ pub fn near_energy(levels: &[f32]) -> f64
 {
     let m = mean(levels);
     let mut energy = 0.0;
-    let mut i = 0;
-    while i < levels.len() {
-        let x = std::num::f32_to_f64_with_nan(levels[i]) - m;
-        energy = energy + x * x;
-        i += 1;
+    for &level in levels {
+        let x = f64::from(level) - m;
+        energy += x * x;
     }
     energy
 }
@@ -65,10 +63,8 @@ fn centre(levels: &[f32], out: &mut [f64])
     ensures { Starts (centred levels.now) (length levels.now) out.new }
 {
     let m = mean(levels);
-    let mut i = 0;
-    while i < levels.len() {
-        out[i] = std::num::f32_to_f64_with_nan(levels[i]) - m;
-        i += 1;
+    for (i, &level) in levels.iter().enumerate() {
+        out[i] = f64::from(level) - m;
     }
 }
 
@@ -77,10 +73,8 @@ fn widen(xs: &[f32], out: &mut [f64])
     requires { length xs.now ≤ length out.old }
     ensures { Starts (at xs.now) (length xs.now) out.new }
 {
-    let mut i = 0;
-    while i < xs.len() {
-        out[i] = std::num::f32_to_f64_with_nan(xs[i]);
-        i += 1;
+    for (i, &x) in xs.iter().enumerate() {
+        out[i] = f64::from(x);
     }
 }
 
@@ -100,10 +94,8 @@ fn write_energies(sums: &[f64], squares: &[f64], frame: usize, energies: &mut [f
     requires { (length energies.old + frame ≤ length sums.now) × (length energies.old + frame ≤ length squares.now) × (frame ≤ 2 ^ 53) }
     ensures { energies.new ≡ table (energy_from sums.now squares.now frame) (length energies.old) }
 {
-    let mut k = 0;
-    while k < energies.len() {
-        energies[k] = energy_at(sums, squares, frame, k);
-        k += 1;
+    for (k, energy) in energies.iter_mut().enumerate() {
+        *energy = energy_at(sums, squares, frame, k);
     }
 }
 
@@ -114,10 +106,8 @@ fn products(near: &[f64], window: &[f64], frame: usize, k: usize) -> f64
     ensures { result ≡ products_of near.now window.now frame k }
 {
     let mut sum = 0.0;
-    let mut i = 0;
-    while i < frame {
-        sum = sum + near[i] * window[k + i];
-        i += 1;
+    for i in 0..frame {
+        sum += near[i] * window[k + i];
     }
     sum
 }
@@ -161,12 +151,10 @@ fn all_live(energies: &[f64], k: usize) -> bool
     requires { k + 16 ≤ length energies.now }
     ensures { result ≡ true → (j : ℕ) → j < 16 → le (at energies.now (k + j)) energy_floor ≡ false }
 {
-    let mut j = 0;
-    while j < 16 {
+    for j in 0..16 {
         if energies[k + j] <= ENERGY_FLOOR {
             return false;
         }
-        j += 1;
     }
     true
 }
@@ -176,10 +164,8 @@ fn add_products(x: f64, window: &[f64], from: usize, sums: &mut [f64; 16])
     requires { (from + 16 ≤ length window.now) × (length sums.old ≡ 16) }
     ensures { sums.new ≡ table (λ j. add binary64 (at sums.old j) (mul binary64 x (at window.now (from + j)))) 16 }
 {
-    let mut j = 0;
-    while j < 16 {
-        sums[j] = sums[j] + x * window[from + j];
-        j += 1;
+    for (j, sum) in sums.iter_mut().enumerate() {
+        *sum += x * window[from + j];
     }
 }
 
@@ -189,15 +175,15 @@ fn products_of_block(near: &[f64], window: &[f64], frame: usize, k: usize, sums:
     requires { Inside near.now window.now frame k 16 × (sums.old ≡ zeros 16) }
     ensures { sums.new ≡ table (λ j. products_of near.now window.now frame (k + j)) 16 }
 {
-    let mut i = 0;
-    while i + 1 < frame {
+    for pair in 0..frame / 2 {
+        let i = 2 * pair;
         add_products(near[i], window, k + i, sums);
         let next = i + 1;
         add_products(near[next], window, k + next, sums);
-        i += 2;
     }
-    if i < frame {
-        add_products(near[i], window, k + i, sums);
+    if frame % 2 == 1 {
+        let last = frame - 1;
+        add_products(near[last], window, k + last, sums);
     }
 }
 
@@ -206,10 +192,8 @@ fn score_sums(guesses: &[u16], sums: &[f64; 16], power: f64, k: usize, scores: &
     requires { Table guesses.now × (k + 16 ≤ length scores.old) × (length sums.now ≡ 16) }
     ensures { (f : ℕ → Float → Float) (old : List Float) → ((j : ℕ) → j < 16 → score_by (at sums.now j) power (at old (k + j)) ≡ f (k + j) (at old (k + j))) → Rewritten f old k scores.old → Rewritten f old (k + 16) scores.new }
 {
-    let mut j = 0;
-    while j < 16 {
-        scores[k + j] = score(guesses, sums[j], power, scores[k + j]);
-        j += 1;
+    for (j, &sum) in sums.iter().enumerate() {
+        scores[k + j] = score(guesses, sum, power, scores[k + j]);
     }
 }
 

@@ -9,6 +9,7 @@ use lib.Ieee as Ieee
 use lib.Ieee.Bits.{of_bits-to_bits, to_bits-lt, nan_bits_is}
 use borrow.Author.Tests.{lt-ltb, ltb-true}
 use Rattle.answers.specs.Pick.{pick, pick_true, pick_case}
+use Rattle.std.specs.Int.{from_bool}
 use Rattle.words.specs.Words.{half, all_below, pattern_of, flag_of}
 
 pub half_small : (w other : ℕ) → w < 2 ^ 32 → half w other ≡ w
@@ -58,6 +59,11 @@ pattern_lt old x o h =
     pick_case (λ (w : ℕ). w < 2 ^ 32) (is_nan x) _ _
     (λ e. pick_case (λ (w : ℕ). w < 2 ^ 32) (nan_bits binary32 old) _ _ (λ q. o) (λ q. to_bits-lt binary32 nan (nan_fits binary32)))
     (λ e. to_bits-lt binary32 x h)
+
+pub flagged : (b : Bool) → from_bool b ≡ flag_of b
+unfolding pick
+flagged true = refl
+flagged false = refl
 
 pub flag_reads : (b : Bool) → eqb (flag_of b) 1 ≡ b
 unfolding pick

@@ -1,11 +1,9 @@
--- `floats_face::tmv_is_finite` meets its contract: by its test.
-use mathlib.Core.Path.{sym, ap, ◌∙◌}
+-- `floats_face::tmv_is_finite` meets its contract: by the pattern's float.
+use Rattle.std.proofs.Common.{ap, ◌∙◌}
 use lib.Ieee.Scale.{finite}
-use Rattle.answers.specs.Pick.{pick_true, pick_false}
+use Rattle.words.proofs.Back.{flagged}
+use Rattle.words.specs.Words.{flag_of}
 use Rattle.floats_face.proofs.tmv_is_finite.Goals as goal
 
-pub returns-then-is_finite : goal.returns-then-is_finite
-returns-then-is_finite c = sym (pick_true _ _ _ (ap finite (sym c.float64.ensures) ∙ sym c.is_finite.ensures ∙ c.if-is_finite.true))
-
 pub returns : goal.returns
-returns c = sym (pick_false _ _ _ (ap finite (sym c.float64.ensures) ∙ sym c.is_finite.ensures ∙ c.if-is_finite.false))
+returns c = c.from.ensures ∙ flagged c.is_finite.result ∙ ap flag_of (c.is_finite.ensures ∙ ap finite c.float64.ensures)

@@ -1,11 +1,9 @@
--- `floats_face::tmv_is_finite32` meets its contract: by its test.
-use mathlib.Core.Path.{sym, ap, ◌∙◌}
+-- `floats_face::tmv_is_finite32` meets its contract: by the pattern's float.
+use Rattle.std.proofs.Common.{ap, ◌∙◌}
 use lib.Ieee.Scale.{finite}
-use Rattle.answers.specs.Pick.{pick_true, pick_false}
+use Rattle.words.proofs.Back.{flagged}
+use Rattle.words.specs.Words.{flag_of}
 use Rattle.floats_face.proofs.tmv_is_finite32.Goals as goal
 
-pub returns-then-is_finite32 : goal.returns-then-is_finite32
-returns-then-is_finite32 c = sym (pick_true _ _ _ (ap finite (sym c.float32.ensures) ∙ sym c.is_finite32.ensures ∙ c.if-is_finite32.true))
-
 pub returns : goal.returns
-returns c = sym (pick_false _ _ _ (ap finite (sym c.float32.ensures) ∙ sym c.is_finite32.ensures ∙ c.if-is_finite32.false))
+returns c = c.from.ensures ∙ flagged c.is_finite32.result ∙ ap flag_of (c.is_finite32.ensures ∙ ap finite c.float32.ensures)

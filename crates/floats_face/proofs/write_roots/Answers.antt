@@ -1,23 +1,14 @@
--- `floats_face::write_roots` meets its contract. Invariant: the first i numbers are replaced by their roots.
-use mathlib.Core.Path.{refl, ◌∙◌}
-use lib.ListN.{length-set}
+-- `floats_face::write_roots` meets its contract. Invariant: the numbers before this one are replaced by their roots.
+use Rattle.std.proofs.Common.{get_or, arith}
+use Rattle.std.proofs.lemmas.List.{get_or_default}
+use Rattle.std.proofs.lemmas.List.Edits.{map_over_more}
 use Rattle.floats.specs.Functions.{root_bits}
 use Rattle.floats.proofs.Laws.{root_bits_only}
-use Rattle.floats_face.proofs.InPlace.{one_more, firsts_all}
-use native.Mathlib.Omega.{arith}
 use Rattle.floats_face.proofs.write_roots.Goals as goal
 
-pub loop-i-init : goal.loop-i-init
-loop-i-init c = (omega arith, refl, refl)
-
-pub loop-i-preserved : goal.loop-i-preserved
-loop-i-preserved c =
-    let l = c.loop-i in
-    let start = c.args.list.now in (
-      omega arith,
-      simp length-set l.invariant.1,
-      one_more root_bits l.i c.root_bits_with.result start l.list l.invariant.2 (omega arith) (root_bits_only _ _ c.root_bits_with.ensures),
-    )
-
-pub returns : goal.returns
-returns c = c.loop-i.invariant.2 ∙ firsts_all root_bits c.loop-i.i c.args.list.now (omega arith)
+pub loop-number-preserved : goal.loop-number-preserved
+loop-number-preserved c =
+    let l = c.loop-number in
+    let number = get_or l.list l.number-index 0 in
+    let same = get_or_default l.list l.number-index 0 number (omega arith) in
+    rw (root_bits_only _ _ c.root_bits_with.ensures) (map_over_more root_bits c.args.list.now l.list l.number-index number (omega arith) l.invariant same)

@@ -5,16 +5,16 @@ use Rattle.scan_lags.proofs.add_products.Invariants.{added}
 use Rattle.scan_lags.proofs.add_products.Goals as goal
 
 pub loop-j-init : goal.loop-j-init
-loop-j-init c = (omega arith, untouched _ _)
+loop-j-init c = untouched _ _
 
 pub loop-j-preserved : goal.loop-j-preserved
 loop-j-preserved c =
     let l = c.loop-j in
     let a = c.args in
-    (omega arith, one_more (added a.x a.window.now a.from) a.sums.now l.j l.sums _ l.invariant.1 (omega (arith, l.invariant.1.size)) refl)
+    one_more (added a.x a.window.now a.from) a.sums.now l.j l.sums _ l.invariant (omega (arith, l.invariant.size)) refl
 
 pub returns : goal.returns
 returns c =
     let l = c.loop-j in
     let a = c.args in
-    rewritten (added a.x a.window.now a.from) a.sums.now l.j l.sums l.invariant.1 (omega (arith, l.invariant.1.size)) ∙ rw c.requires.1
+    rewritten (added a.x a.window.now a.from) a.sums.now l.j l.sums l.invariant (omega (arith, l.invariant.size)) ∙ rw c.requires.1

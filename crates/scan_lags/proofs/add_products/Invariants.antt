@@ -1,4 +1,4 @@
-use Rattle.std.proofs.Common.{ℕ, ◌+◌, ◌-◌, ◌≤◌, List}
+use Rattle.std.proofs.Common.{ℕ, ◌+◌, List}
 use lib.Ieee.{Float, binary64, add, mul}
 use Rattle.folds.specs.Sums.{at}
 use Rattle.folds.specs.Rewriting.{Rewritten}
@@ -9,7 +9,4 @@ abbrev pub added : Float → List Float → ℕ → ℕ → Float → Float
 added x window from j s = add binary64 s (mul binary64 x (at window (from + j)))
 
 abbrev pub invariant-loop-j : goal.invariant-loop-j
-invariant-loop-j l = (l.j ≤ 16) × Rewritten (added l.x l.window l.from) l.initial.sums l.j l.sums
-
-abbrev pub decreases-loop-j : goal.decreases-loop-j
-decreases-loop-j l = 16 - l.j
+invariant-loop-j l = Rewritten (added l.x l.window l.from) l.initial.sums l.j l.sums

@@ -4,13 +4,13 @@ use mathlib.Core.Bool.{false≢true}
 use Rattle.scan_lags.proofs.all_live.Goals as goal
 
 pub loop-j-init : goal.loop-j-init
-loop-j-init c = (omega arith, λ m h. absurd (omega arith))
+loop-j-init c = λ m h. absurd (omega arith)
 
 pub returns-then-energies-k : goal.returns-then-energies-k
 returns-then-energies-k c = λ e. absurd (false≢true e)
 
 pub loop-j-preserved : goal.loop-j-preserved
-loop-j-preserved c = (omega arith, below_more _ _ c.loop-j.invariant.1 c.if-energies-k.false)
+loop-j-preserved c = below_more _ _ c.loop-j.invariant c.if-energies-k.false
 
 pub returns : goal.returns
-returns c = λ e m h. c.loop-j.invariant.1 m (omega arith)
+returns c = λ e m h. c.loop-j.invariant m (omega arith)

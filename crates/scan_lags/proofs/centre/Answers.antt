@@ -13,11 +13,11 @@ pub loop-i-preserved : goal.loop-i-preserved
 loop-i-preserved c =
     let l = c.loop-i in
     let x = c.args.levels.now in
-    (omega arith, simp length-set l.invariant.1, l.invariant.2, grow (centred x) l.out l.i _ (omega arith) l.invariant.3 (cc))
+    (simp length-set l.invariant.0, l.invariant.1, grow (centred x) l.out l.i _ (omega arith) l.invariant.2 (cc))
 
 pub returns : goal.returns
 returns c =
     let l = c.loop-i in
     let x = c.args.levels.now in
     let e : l.i ≡ length x = omega arith in
-    front (centred x) l.out (length x) (rw e at l.invariant.3)
+    front (centred x) l.out (length x) (rw e at l.invariant.2)

@@ -12,7 +12,7 @@ loop-i-init c = search rules
 
 pub loop-i-preserved : goal.loop-i-preserved
 loop-i-preserved c =
-    (omega arith, more (product_at c.args.near.now c.args.window.now c.args.k) c.loop-i.i c.loop-i.sum c.loop-i.invariant.1)
+    more (product_at c.args.near.now c.args.window.now c.args.k) c.loop-i.i c.loop-i.sum c.loop-i.invariant
 
 pub returns : goal.returns
-returns c = let e : c.loop-i.i ≡ c.args.frame = omega arith in rw e at c.loop-i.invariant.1
+returns c = let e : c.loop-i.i ≡ c.args.frame = omega arith in rw e at c.loop-i.invariant

@@ -6,7 +6,7 @@ use Rattle.scan_lags.proofs.score_sums.Goals as goal
 pub loop-j-init : goal.loop-j-init
 loop-j-init c =
     let z : c.args.k + 0 ≡ c.args.k = omega arith in
-    (omega arith, refl, λ f old h r. rw z r)
+    (refl, λ f old h r. rw z r)
 
 pub loop-j-preserved : goal.loop-j-preserved
 loop-j-preserved c =
@@ -14,12 +14,11 @@ loop-j-preserved c =
     let a = c.args in
     let z : a.k + (l.j + 1) ≡ a.k + l.j + 1 = omega arith in
     let e = c.score.ensures in (
-      omega arith,
-      simp length-set l.invariant.1,
+      simp length-set l.invariant.0,
       λ f old h r.
-          let s = l.invariant.2 f old h r in
+          let s = l.invariant.1 f old h r in
           rw z (one_more f old (a.k + l.j) l.scores _ s (omega arith) (e ∙ rw (s.left (a.k + l.j) (omega arith)) (h l.j (omega arith)))),
     )
 
 pub returns : goal.returns
-returns c = let e : c.loop-j.j ≡ 16 = omega arith in rw e at c.loop-j.invariant.2
+returns c = let e : c.loop-j.j ≡ 16 = omega arith in rw e at c.loop-j.invariant.1

@@ -1,4 +1,4 @@
-use Rattle.std.proofs.Common.{◌≡◌, ℕ, ◌+◌, ◌-◌, ◌<◌, ◌≤◌, List, length}
+use Rattle.std.proofs.Common.{◌≡◌, ℕ, ◌+◌, ◌<◌, List, length}
 use lib.Ieee.{Float}
 use Rattle.folds.specs.Sums.{at}
 use Rattle.folds.specs.Rewriting.{Rewritten}
@@ -11,9 +11,5 @@ Gives sums power k f old = (j : ℕ) → j < 16 → score_by (at sums j) power (
 
 abbrev pub invariant-loop-j : goal.invariant-loop-j
 invariant-loop-j l =
-    (l.j ≤ 16) ×
     (length l.scores ≡ length l.initial.scores) ×
     ((f : ℕ → Float → Float) (old : List Float) → Gives l.sums l.power l.k f old → Rewritten f old l.k l.initial.scores → Rewritten f old (l.k + l.j) l.scores)
-
-abbrev pub decreases-loop-j : goal.decreases-loop-j
-decreases-loop-j l = 16 - l.j

@@ -7,17 +7,17 @@ use Rattle.scan_lags.proofs.write_energies.Goals as goal
 
 pub loop-k-init : goal.loop-k-init
 unfolding table
-loop-k-init c = (omega arith, refl, refl)
+loop-k-init c = (refl, refl)
 
 pub loop-k-preserved : goal.loop-k-preserved
 loop-k-preserved c =
     let l = c.loop-k in
     let a = c.args in
-    (omega arith, simp length-set l.invariant.1, grow (energy_from a.sums.now a.squares.now a.frame) l.energies l.k _ (omega arith) l.invariant.2 c.energy_at.ensures)
+    (simp length-set l.invariant.0, grow (energy_from a.sums.now a.squares.now a.frame) l.energies l.k _ (omega arith) l.invariant.1 c.energy_at.ensures)
 
 pub returns : goal.returns
 returns c =
     let l = c.loop-k in
     let a = c.args in
     let e : l.k ≡ length a.energies.now = omega arith in
-    whole (energy_from a.sums.now a.squares.now a.frame) l.energies (length a.energies.now) l.invariant.1 (rw e at l.invariant.2)
+    whole (energy_from a.sums.now a.squares.now a.frame) l.energies (length a.energies.now) l.invariant.0 (rw e at l.invariant.1)

@@ -1,10 +1,7 @@
-use Rattle.std.proofs.Common.{◌≡◌, ◌-◌, ◌≤◌, length, take}
+use Rattle.std.proofs.Common.{◌≡◌, length, take}
 use Rattle.folds.specs.Sums.{table}
 use Rattle.scan_lags.specs.Lags.{energy_from}
 use Rattle.scan_lags.proofs.write_energies.Given as goal
 
 abbrev pub invariant-loop-k : goal.invariant-loop-k
-invariant-loop-k l = (l.k ≤ length l.initial.energies) × (length l.energies ≡ length l.initial.energies) × (take l.k l.energies ≡ table (energy_from l.sums l.squares l.frame) l.k)
-
-abbrev pub decreases-loop-k : goal.decreases-loop-k
-decreases-loop-k l = length l.initial.energies - l.k
+invariant-loop-k l = (length l.energies ≡ length l.initial.energies) × (take l.k l.energies ≡ table (energy_from l.sums l.squares l.frame) l.k)

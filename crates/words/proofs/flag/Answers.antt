@@ -1,14 +1,7 @@
--- `words::flag` meets its contract: case by case.
-use Rattle.std.proofs.Common.{◌≡◌, Bool, true, false, refl, ◌∙◌}
-use Rattle.std.specs.Int.{from_bool}
-use Rattle.answers.specs.Pick.{pick}
-use Rattle.words.specs.Words.{flag_of}
+-- `words::flag` meets its contract.
+use Rattle.std.proofs.Common.{◌∙◌}
+use Rattle.words.proofs.Back.{flagged}
 use Rattle.words.proofs.flag.Goals as goal
 
-same : (b : Bool) → from_bool b ≡ flag_of b
-unfolding pick
-same true = refl
-same false = refl
-
 pub returns : goal.returns
-returns c = c.from.ensures ∙ same c.args.b
+returns c = c.from.ensures ∙ flagged c.args.b
