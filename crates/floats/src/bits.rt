@@ -17,6 +17,7 @@ const INFINITE_32: u32 = 0x7f80_0000;
 
 const NO_NUMBER_32: u32 = 0x7fc0_0000;
 
+// Each function stands once for each format: the constants differ, and std has no trait of both types.
 pub fn float64(pattern: u64) -> f64
     ensures { result ≡ of_bits binary64 pattern }
 {

@@ -268,7 +268,7 @@ pub fn square_root(x: f64) -> f64
     square_root_with(&guesses, x)
 }
 
-// Tells whether x is neither a NaN nor an infinity.
+// Tells whether x is neither a NaN nor an infinity. There is one for each type: std has no trait of both, and one of our own would be no plainer than a call of a method.
 pub fn is_finite(x: f64) -> bool
     ensures { result ≡ finite x }
 {

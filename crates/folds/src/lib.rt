@@ -98,6 +98,7 @@ pub fn all_finite(xs: &[f32]) -> bool
     each_finite(xs)
 }
 
+// The same for f64, without the quarters: it is asked of few values. One over both types would need a trait of its own in every contract, for a loop of a few lines.
 pub fn all_finite64(xs: &[f64]) -> bool
     ensures { result ≡ all_finite xs.now }
 {
@@ -110,7 +111,7 @@ pub fn all_finite64(xs: &[f64]) -> bool
     fine
 }
 
-// Sets every value to +0.
+// Sets every value to +0. There is one for each type, since the contract speaks of floats: over any type it would be `fill` itself.
 pub fn clear32(xs: &mut [f32])
     ensures { xs.new ≡ zeros (length xs.old) }
 {

@@ -246,7 +246,7 @@ fn score_some(
     }
 }
 
-// The scores, in the place of the energies, with the table of first guesses lent: how many lags had their products formed.
+// The scores, in the place of the energies, with the table of first guesses lent: how many lags had their products formed. A turn goes on by one lag or by sixteen, as no `for` does.
 fn score_lags_with(
     guesses: &[u16],
     near: &[f64],
