@@ -63,6 +63,7 @@ pub fn lags(g: Geometry) -> u64
 
 // ---- 3: the state rules
 
+// Of what follows from rate and ceiling: those two are not compared, as `same_geometry` of specs/Bins has it, so no derived `==`.
 fn same_geometry(g: Geometry, h: Geometry) -> bool
     ensures { result ≡ same_geometry g h }
 {

@@ -19,6 +19,7 @@ pub fn run(start: f64, samples: &[f32], from: usize, n: usize) -> f64
     sum
 }
 
+// Two and four sums have a name each, and no array with a const parameter: the loops below keep each in a register of its own, and what a sum goes on from differs.
 #[derive(Clone, Copy)]
 pub struct TwoSums {
     pub first: f64,
