@@ -187,11 +187,9 @@ fn energy(xs: &[f32]) -> f64
     ensures { result ≡ energy_of xs.now }
 {
     let mut sum = 0.0;
-    let mut i = 0;
-    while i < xs.len() {
-        let x = std::num::f32_to_f64_with_nan(xs[i]);
-        sum = sum + x * x;
-        i += 1;
+    for &sample in xs {
+        let x = f64::from(sample);
+        sum += x * x;
     }
     sum
 }
@@ -266,7 +264,7 @@ fn consume(frames: Frames, passage: Passage) -> Frames
             len: 0,
             retained: false,
             taken: frames.taken,
-            skipped: answers::next_count(frames.skipped),
+            skipped: frames.skipped.saturating_add(1),
         },
         Passage::Silent => Frames {
             len: 0,
@@ -277,7 +275,7 @@ fn consume(frames: Frames, passage: Passage) -> Frames
         Passage::Taken => Frames {
             len: 0,
             retained: true,
-            taken: answers::next_count(frames.taken),
+            taken: frames.taken.saturating_add(1),
             skipped: frames.skipped,
         },
     }
@@ -307,17 +305,6 @@ fn passed(fine: Fine, passage: Passage) -> Gated
     }
 }
 
-fn copy(from: &[f32], to: &mut [f32])
-    requires { length from.now ≡ length to.old }
-    ensures { to.new ≡ from.now }
-{
-    let mut i = 0;
-    while i < from.len() {
-        to[i] = from[i];
-        i += 1;
-    }
-}
-
 // Retains a taken frame.
 fn retain(passage: Passage, near: &[f32], retained: &mut [f32])
     requires { length near.now ≡ length retained.old }
@@ -326,7 +313,7 @@ fn retain(passage: Passage, near: &[f32], retained: &mut [f32])
     match passage {
         Passage::Skipped => {}
         Passage::Silent => {}
-        Passage::Taken => copy(near, retained),
+        Passage::Taken => retained.copy_from_slice(near),
     }
 }
 

@@ -41,10 +41,8 @@ fn judge(fine: Fine, near_len: usize) -> u8
 fn takes(fine: Fine, samples: usize) -> usize
     ensures { result ≡ Handover.takes fine samples }
 {
-    let lengths = fine.lengths;
-    let frames = fine.frames;
-    let wants = answers::saturating_sub(lengths.frame, frames.len);
-    answers::smaller(samples as u64, wants) as usize
+    let wants = fine.lengths.frame.saturating_sub(fine.frames.len);
+    (samples as u64).min(wants) as usize
 }
 
 fn refusal(fine: Fine, near_len: usize, samples: &[f32]) -> u8
@@ -74,11 +72,7 @@ fn fill(near: &mut [f32], at: usize, samples: &[f32], n: usize)
     requires { (at + n ≤ length near.old) × (n ≤ length samples.now) }
     ensures { near.new ≡ paste near.old at samples.now n }
 {
-    let mut i = 0;
-    while i < n {
-        near[at + i] = samples[i];
-        i += 1;
-    }
+    near[at..at + n].copy_from_slice(&samples[..n]);
 }
 
 // Counts n samples in the state, and tells whether they completed the frame.

@@ -1,4 +1,4 @@
--- `fine_gate::energy` meets its contract. Invariant: the sum of the first i squares.
+-- `fine_gate::energy` meets its contract. Invariant: the sum of the squares so far.
 use Rattle.std.proofs.Common.{◌≡◌, ℕ, length, arith, rules}
 use lib.Ieee.{of_bits}
 use Rattle.folds.specs.Sums.{upto, at, square}
@@ -6,16 +6,16 @@ use Rattle.folds.proofs.Laws.{more}
 use Rattle.fine_gate.specs.Gate.{energy_of}
 use Rattle.fine_gate.proofs.energy.Goals as goal
 
-pub loop-i-init : goal.loop-i-init
+pub loop-sample-init : goal.loop-sample-init
 unfolding upto of_bits
-loop-i-init c = search rules
+loop-sample-init c = search rules
 
-pub loop-i-preserved : goal.loop-i-preserved
-loop-i-preserved c =
-    let l = c.loop-i in
+pub loop-sample-preserved : goal.loop-sample-preserved
+loop-sample-preserved c =
+    let l = c.loop-sample in
     let xs = c.args.xs.now in
-    (omega arith, cc (more (λ (j : ℕ). square (at xs j)) l.i l.sum l.invariant.1))
+    cc (more (λ (j : ℕ). square (at xs j)) l.sample-index l.sum l.invariant)
 
 pub returns : goal.returns
 unfolding energy_of
-returns c = let e : c.loop-i.i ≡ length c.args.xs.now = omega arith in cc
+returns c = let e : c.loop-sample.sample-index ≡ length c.args.xs.now = omega arith in cc

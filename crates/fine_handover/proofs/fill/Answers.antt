@@ -1,26 +1,15 @@
--- `fine_handover::fill` meets its contract. Invariant: the first i samples are pasted.
+-- `fine_handover::fill` meets its contract.
+use Prim.Native.Nat.{◌+◌, ◌-◌}
 use mathlib.Core.Path.{◌≡◌, refl}
-use native.Mathlib.Numerals.{add-one}
 use native.Mathlib.Omega.{arith}
-use lib.ListN.{length-set}
-use lib.Seq.{paste-zero, paste-suc}
-use lib.Ieee.{nan}
+use lib.ListN.{take}
+use Rattle.std.proofs.Common.{append_assoc}
+use Rattle.std.proofs.lemmas.List.{drop-drop}
 use Rattle.fine_handover.proofs.fill.Goals as goal
-
-pub loop-i-init : goal.loop-i-init
-loop-i-init c = (omega arith, refl, paste-zero c.args.near.now c.args.at c.args.samples.now)
-
-pub loop-i-preserved : goal.loop-i-preserved
-loop-i-preserved c =
-    let l = c.loop-i in
-    let a = c.args in (
-      omega arith,
-      simp length-set l.invariant.1,
-      rw add-one (rw l.invariant.2 (paste-suc a.near.now a.at a.samples.now l.i nan (omega (arith, l.invariant.1)) (omega arith))),
-    )
 
 pub returns : goal.returns
 returns c =
-    let l = c.loop-i in
-    let e : l.i ≡ c.args.n = omega arith in
-    rw e at l.invariant.2
+    let a = c.args in
+    let part : a.at + a.n - a.at ≡ a.n = omega arith in
+    let copied : c.copy_from_slice.new.self ≡ take a.n a.samples.now = c.copy_from_slice.ensures.after in
+    rw (copied, part, drop-drop, ← append_assoc) refl
