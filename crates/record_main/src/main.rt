@@ -13,8 +13,8 @@ mod sounds;
 mod words;
 
 use pipes::{named, rooms, told};
-use recording_make::{Plan, Planned};
-use sounds::{Found, Source};
+use recording_make::{Misfit, Plan};
+use sounds::Source;
 use std::io::Stderr;
 use std::process::ExitCode;
 
@@ -72,9 +72,9 @@ fn make(
 }
 
 // Kinds and rates are named with the near file; what was asked for is a matter of how the command was called.
-fn unlike(err: Stderr, planned: Planned, far_name: &[u8], near_name: &[u8]) -> u64 {
-    match planned {
-        Planned::OtherKinds => {
+fn unlike(err: Stderr, misfit: Misfit, far_name: &[u8], near_name: &[u8]) -> u64 {
+    match misfit {
+        Misfit::OtherKinds => {
             words::beside(
                 err,
                 near_name,
@@ -83,15 +83,15 @@ fn unlike(err: Stderr, planned: Planned, far_name: &[u8], near_name: &[u8]) -> u
             );
             1
         }
-        Planned::OtherRates => {
+        Misfit::OtherRates => {
             words::beside(err, near_name, far_name, b"their rates differ: ");
             1
         }
-        Planned::OtherCeiling => {
+        Misfit::OtherCeiling => {
             named::say(err, b"record", b"--ceiling is 1 to 4000, in ms");
             2
         }
-        Planned::OtherStart => {
+        Misfit::OtherStart => {
             named::say(
                 err,
                 b"record",
@@ -99,7 +99,6 @@ fn unlike(err: Stderr, planned: Planned, far_name: &[u8], near_name: &[u8]) -> u
             );
             2
         }
-        Planned::Fits(_) => 0,
     }
 }
 
@@ -108,21 +107,17 @@ fn planned(rt: HostRuntime, far: &Source, far_name: &[u8], near: &Source, near_n
     let start = numbers::argument(&rt, 6);
     let played = far.sound;
     let heard = near.sound;
-    let planned = recording_make::plan_from(played, heard, ceiling, start);
-    match planned {
-        Planned::Fits(p) => make(rt, p, far, far_name, near, near_name),
-        Planned::OtherKinds => unlike(rt.stderr(), planned, far_name, near_name),
-        Planned::OtherRates => unlike(rt.stderr(), planned, far_name, near_name),
-        Planned::OtherCeiling => unlike(rt.stderr(), planned, far_name, near_name),
-        Planned::OtherStart => unlike(rt.stderr(), planned, far_name, near_name),
+    match recording_make::plan_from(played, heard, ceiling, start) {
+        Ok(p) => make(rt, p, far, far_name, near, near_name),
+        Err(misfit) => unlike(rt.stderr(), misfit, far_name, near_name),
     }
 }
 
 fn recorded(rt: HostRuntime, far_name: &[u8], near_name: &[u8]) -> u64 {
-    let Found::Sound(far) = sounds::open(rt, far_name, numbers::argument(&rt, 3)) else {
+    let Some(far) = sounds::open(rt, far_name, numbers::argument(&rt, 3)) else {
         return 1;
     };
-    let Found::Sound(near) = sounds::open(rt, near_name, numbers::argument(&rt, 4)) else {
+    let Some(near) = sounds::open(rt, near_name, numbers::argument(&rt, 4)) else {
         return 1;
     };
     planned(rt, &far, far_name, &near, near_name)

@@ -19,7 +19,7 @@ use Rattle.recording.specs.declared.Used.{Used}
 use Rattle.wav.specs.declared.Sound.{Sound}
 use Rattle.recording_make.specs.Making.{form_of, events_of, plan_of, same_kind, planned, fitting, fars_turn, kind_number, room_behind}
 use Rattle.recording_make.specs.declared.Plan.{Plan}
-use Rattle.recording_make.specs.declared.Planned.TheVariants.{Fits}
+use Rattle.std.specs.Prelude.{Ok}
 
 -- ---- how many events a side has
 
@@ -91,6 +91,6 @@ joined a b c d v rest behind e r = ap (λ (l : List ℕ). l ++ rest) e ∙ ap (�
 -- what passes every test is planned
 pub plan_fits : (far near : Sound) (ceiling start : ℕ) → same_kind far.kind near.kind ≡ true → eqb far.rate near.rate ≡ true → allowed_rate far.rate ≡ true →
     allowed_ceiling ceiling ≡ true → leb (start + near.frames) limit ≡ true →
-    planned far near ceiling start ≡ Fits (plan_of (form_of far.kind) far.rate ceiling far.frames near.frames start)
+    planned far near ceiling start ≡ Ok (plan_of (form_of far.kind) far.rate ceiling far.frames near.frames start)
 unfolding planned
 plan_fits far near ceiling start a b c d e = pick_true _ _ _ a ∙ pick_true _ _ _ (pick_true _ _ _ b ∙ c) ∙ pick_true _ _ _ d ∙ pick_true _ _ _ e

@@ -1,5 +1,5 @@
 -- A recording that is made is whole: each event is good and has its samples, and together they use every sample of both sides. So no line of its log begins with `bad`.
-use Rattle.std.specs.Prelude.{Some}
+use Rattle.std.specs.Prelude.{Some, Result, Ok}
 use mathlib.Core.Path.{◌≡◌, refl, sym, ap, ◌∙◌}
 use mathlib.Core.Bool.{Bool, true, false, true≢false}
 use mathlib.Core.List.{List, ◌++◌, append_assoc}
@@ -26,8 +26,7 @@ use Rattle.recording_convert.specs.Whole.{Recording, lengths_of, entry_of, used_
 use Rattle.wav.specs.declared.Sound.{Sound}
 use Rattle.recording_make.specs.Making.{form_of, piece_of, events_of, plan_of, planned, fitting, piece_from, fars_turn, nears_turn, step_with, step_of, entry_bytes, events_from, made}
 use Rattle.recording_make.specs.declared.Plan.{Plan}
-use Rattle.recording_make.specs.declared.Planned.{Planned}
-use Rattle.recording_make.specs.declared.Planned.TheVariants.{Fits}
+use Rattle.recording_make.specs.declared.Misfit.{Misfit}
 use Rattle.recording_make.specs.declared.Step.{Step}
 use Rattle.recording_make.specs.declared.Next.TheVariants.{Played, Heard}
 use Rattle.recording_make.proofs.Laws.{within_least, far_left, few_events, no_events, one_event}
@@ -216,7 +215,7 @@ made_whole p far near fit f n =
     goes p fit events far near f n p.header.events 0 (used_up 0 0) (header_bytes p.header) (omega arith) (omega arith) (rw (all-far, all_near) fit.events) (header_bytes_length p.header ∙ omega arith) refl
 
 -- Every plan that is made of two sounds is fitting.
-pub planned_fits : (far near : Sound) (ceiling start : ℕ) (p : Plan) → far.frames < 2 ^ 32 → near.frames < 2 ^ 32 → planned far near ceiling start ≡ Fits p → Fit p
+pub planned_fits : (far near : Sound) (ceiling start : ℕ) (p : Plan) → far.frames < 2 ^ 32 → near.frames < 2 ^ 32 → planned far near ceiling start ≡ Ok p → Fit p
 unfolding planned
 planned_fits far near ceiling start p f n =
     pick_case Fitted _ _ _ (λ k.
@@ -230,10 +229,10 @@ planned_fits far near ceiling start p f n =
     (λ r e. absurd (let z : ◌≡◌ {A = ℕ} 0 1 = cc in omega arith)))
     (λ k e. absurd (let z : ◌≡◌ {A = ℕ} 0 1 = cc in omega arith))
   where
-    Fitted : Planned → Type 0
-    Fitted x = x ≡ Fits p → Fit p
+    Fitted : Result Plan Misfit → Type 0
+    Fitted x = x ≡ Ok p → Fit p
 
 -- So what is made of two sounds, with all samples of one channel of each, is whole.
-pub recorded_whole : (far near : Sound) (ceiling start : ℕ) (p : Plan) (a b : List ℕ) → far.frames < 2 ^ 32 → near.frames < 2 ^ 32 → planned far near ceiling start ≡ Fits p →
+pub recorded_whole : (far near : Sound) (ceiling start : ℕ) (p : Plan) (a b : List ℕ) → far.frames < 2 ^ 32 → near.frames < 2 ^ 32 → planned far near ceiling start ≡ Ok p →
     bytes_of p.header.form p.header.far ≤ length a → bytes_of p.header.form p.header.near ≤ length b → whole_recording (made p a b) ≡ true
 recorded_whole far near ceiling start p a b f n e x y = made_whole p a b (planned_fits far near ceiling start p f n e) x y

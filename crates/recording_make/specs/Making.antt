@@ -1,5 +1,5 @@
 -- A recording made of two sounds: what was played is its far side, what was heard its near side.
-use Rattle.std.specs.Prelude.{ℕ, zero, suc, ◌+◌, ◌-◌, ◌/◌, min, Bool, true, false, List, [], ◌∷◌, ◌++◌, ltb, leb, eqb}
+use Rattle.std.specs.Prelude.{ℕ, zero, suc, ◌+◌, ◌-◌, ◌/◌, min, Bool, true, false, List, [], ◌∷◌, ◌++◌, ltb, leb, eqb, Result, Ok, Err}
 use Rattle.answers.specs.Pick.{pick, both, either}
 use Rattle.answers.specs.Numbers.{limit, allowed_rate, allowed_ceiling}
 use Rattle.recording.specs.Bytes.{bytes}
@@ -15,8 +15,8 @@ use Rattle.wav.specs.declared.Kind.{Kind}
 use Rattle.wav.specs.declared.Kind.TheVariants.{Short, Single}
 use Rattle.wav.specs.declared.Sound.{Sound}
 use Rattle.recording_make.specs.declared.Plan.{Plan}
-use Rattle.recording_make.specs.declared.Planned.{Planned}
-use Rattle.recording_make.specs.declared.Planned.TheVariants.{Fits, OtherKinds, OtherRates, OtherCeiling, OtherStart}
+use Rattle.recording_make.specs.declared.Misfit.{Misfit}
+use Rattle.recording_make.specs.declared.Misfit.TheVariants.{OtherKinds, OtherRates, OtherCeiling, OtherStart}
 use Rattle.recording_make.specs.declared.Step.{Step}
 use Rattle.recording_make.specs.declared.Next.{Next}
 use Rattle.recording_make.specs.declared.Next.TheVariants.{Played, Heard, Over}
@@ -64,14 +64,14 @@ unfoldable pub fitting : Plan → Bool
 fitting p = both (allowed_rate p.header.rate) (leb (p.start + p.header.near) limit)
 
 -- Kinds and rates must be the same, rate and ceiling of the table, and the indices within the limit.
-unfoldable pub planned : Sound → Sound → ℕ → ℕ → Planned
+unfoldable pub planned : Sound → Sound → ℕ → ℕ → Result Plan Misfit
 planned far near ceiling start =
     let p = plan_of (form_of far.kind) far.rate ceiling far.frames near.frames start in
     pick (same_kind far.kind near.kind) (
     pick (both (eqb far.rate near.rate) (allowed_rate far.rate)) (
     pick (allowed_ceiling ceiling) (
-    pick (leb (start + near.frames) limit) (Fits p)
-    OtherStart) OtherCeiling) OtherRates) OtherKinds
+    pick (leb (start + near.frames) limit) (Ok p)
+    (Err OtherStart)) (Err OtherCeiling)) (Err OtherRates)) (Err OtherKinds)
 
 -- ---- the events
 

@@ -19,9 +19,8 @@ pub struct Plan {
 
 // Why two sounds make no recording: one has 16-bit samples and the other floats; their rates differ, or are outside the table; the ceiling is outside it; an index
 // would pass the limit.
-#[derive(Clone, Copy)]
-pub enum Planned {
-    Fits(Plan),
+#[derive(Clone, Copy, Debug)]
+pub enum Misfit {
     OtherKinds,
     OtherRates,
     OtherCeiling,
@@ -103,29 +102,29 @@ fn plan_of(form: Form, rate: u32, ceiling: u32, far: u32, near: u32, start: u64)
 }
 
 // Plans a recording of two sounds.
-pub fn plan_from(far: Sound, near: Sound, ceiling: u32, start: u64) -> Planned
+pub fn plan_from(far: Sound, near: Sound, ceiling: u32, start: u64) -> Result<Plan, Misfit>
     ensures { result ≡ planned far near ceiling start }
 {
     let kind = far.kind;
     let other = near.kind;
     if !same_kind(kind, other) {
-        return Planned::OtherKinds;
+        return Err(Misfit::OtherKinds);
     }
     let rate = far.rate;
     if rate != near.rate {
-        return Planned::OtherRates;
+        return Err(Misfit::OtherRates);
     }
     if !answers::allowed_rate(rate) {
-        return Planned::OtherRates;
+        return Err(Misfit::OtherRates);
     }
     if !answers::allowed_ceiling(ceiling) {
-        return Planned::OtherCeiling;
+        return Err(Misfit::OtherCeiling);
     }
     if !within_limit(start, near.frames) {
-        return Planned::OtherStart;
+        return Err(Misfit::OtherStart);
     }
     let form = form_of(kind);
-    Planned::Fits(plan_of(form, rate, ceiling, far.frames, near.frames, start))
+    Ok(plan_of(form, rate, ceiling, far.frames, near.frames, start))
 }
 
 fn fits(p: Plan) -> bool

@@ -1,4 +1,5 @@
 -- Laws of frames, and of what is opened.
+use Rattle.std.specs.Prelude.{Ok}
 use mathlib.Core.Path.{◌≡◌, ◌∙◌}
 use mathlib.Core.Bool.{true}
 use Prim.Native.Nat.{ℕ, ◌+◌, ◌*◌, ◌/◌, ◌%◌, ◌<◌, ◌≤◌}
@@ -10,7 +11,6 @@ use Rattle.answers.specs.Pick.{pick_true}
 use Rattle.answers.specs.Numbers.{allowed_rate}
 use Rattle.wav.specs.Wave.{width_of, frame_of, whole_frame, sound_of}
 use Rattle.wav.specs.declared.Format.{Format}
-use Rattle.wav.specs.declared.Answer.TheVariants.{Opened}
 use Rattle.wav.specs.declared.Kind.{Kind}
 use Rattle.wav.specs.declared.Kind.TheVariants.{Short, Single}
 
@@ -39,6 +39,6 @@ aligned kind channels align e =
 -- what passes every test is opened
 pub sound_opened : (kind : Kind) (f : Format) (at size length : ℕ) → eqb f.bits (8 * width_of kind) ≡ true → whole_frame kind f.channels f.align ≡ true →
     allowed_rate f.rate ≡ true → leb (at + size) length ≡ true → eqb (size % f.align) 0 ≡ true →
-    sound_of kind f at size length ≡ Opened (record { kind = kind; channels = f.channels; rate = f.rate; at = at; size = size; frames = size / f.align })
+    sound_of kind f at size length ≡ Ok (record { kind = kind; channels = f.channels; rate = f.rate; at = at; size = size; frames = size / f.align })
 unfolding sound_of
 sound_opened kind f at size length a b c d e = pick_true _ _ _ a ∙ pick_true _ _ _ b ∙ pick_true _ _ _ c ∙ pick_true _ _ _ d ∙ pick_true _ _ _ e

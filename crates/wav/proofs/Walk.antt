@@ -1,4 +1,5 @@
 -- Laws of the walk over the chunks of a head.
+use Rattle.std.specs.Prelude.{Result, Ok, Err}
 use mathlib.Core.Path.{◌≡◌, refl, ap, ◌∙◌}
 use mathlib.Core.List.{List}
 use Prim.Native.Nat.{ℕ, zero, suc, ◌+◌, ◌-◌, ◌*◌, ◌<◌, ◌≤◌}
@@ -7,18 +8,19 @@ use lib.Dec.{ltb, eqb}
 use borrow.Author.Tests.{lt-ltb, le-ltb, ltb-false, eq-eqb, ne_eqb, eqb-false}
 use Rattle.answers.specs.Pick.{pick, pick_true, pick_false, pick_case}
 use Rattle.wav.specs.Riff.{head_length, format_id, data_id, id_at, size_at, behind, format_past, found_at, chunks_from, chunks_of}
-use Rattle.wav.specs.declared.Chunks.{Chunks}
-use Rattle.wav.specs.declared.Chunks.TheVariants.{Found, NoFormat, NoData}
+use Rattle.wav.specs.declared.Places.{Places}
+use Rattle.wav.specs.declared.Reason.{Reason}
+use Rattle.wav.specs.declared.Reason.TheVariants.{NoFormat, NoData}
 
 module _ (s : List ℕ) where
   -- ---- one chunk
 
-  pub walk_over : (n at format : ℕ) → n ≤ 0 → chunks_from s n at format ≡ NoData
+  pub walk_over : (n at format : ℕ) → n ≤ 0 → chunks_from s n at format ≡ Err NoData
   unfolding chunks_from
   walk_over zero at format h = refl
   walk_over (suc n) at format h = absurd (omega arith)
 
-  pub walk_past : (n at format : ℕ) → head_length s < at + 8 → chunks_from s n at format ≡ NoData
+  pub walk_past : (n at format : ℕ) → head_length s < at + 8 → chunks_from s n at format ≡ Err NoData
   unfolding chunks_from
   walk_past zero at format h = refl
   walk_past (suc n) at format h = pick_true _ _ _ (lt-ltb _ _ h)
@@ -44,16 +46,17 @@ module _ (s : List ℕ) where
   abbrev Passed : ℕ → ℕ → Type 0
   Passed format at = 0 < format → format + 8 + size_at s format ≤ at
 
-  abbrev Sound : Chunks → Type 0
-  Sound c = (x y : ℕ) → c ≡ Found x y → (x + 8 + size_at s x ≤ y) × (y + 8 ≤ head_length s)
+  abbrev Sound : Result Places Reason → Type 0
+  Sound c = (p : Places) → c ≡ Ok p → (p.format + 8 + size_at s p.format ≤ p.samples) × (p.samples + 8 ≤ head_length s)
 
   found_sound : (format at : ℕ) → Passed format at → at + 8 ≤ head_length s → Sound (found_at format at)
   found_sound format at passed inside =
-      pick_case Sound (eqb format 0) NoFormat (Found format at)
-      (λ t x y e. absurd (let z : ◌≡◌ {A = ℕ} 0 1 = cc in omega arith))
-      (λ t x y e.
-      let p : format ≡ x = cc in
-      let q : at ≡ y = cc in
+      pick_case Sound (eqb format 0) (Err NoFormat) (Ok (record { format = format; samples = at }))
+      (λ t p e. absurd (let z : ◌≡◌ {A = ℕ} 0 1 = cc in omega arith))
+      (λ t x e.
+      let r : ◌≡◌ {A = Places} (record { format = format; samples = at }) x = cc in
+      let p : format ≡ x.format = ap (λ (z : Places). z.format) r in
+      let q : at ≡ x.samples = ap (λ (z : Places). z.samples) r in
       let l : format + 8 + size_at s format ≤ at = passed (omega (arith, eqb-false format 0 t)) in
       (rw (p, q) at l, rw q at inside))
 
@@ -63,10 +66,10 @@ module _ (s : List ℕ) where
 
   pub walk_found : (n at format : ℕ) → Passed format at → Sound (chunks_from s n at format)
   unfolding chunks_from
-  walk_found zero at format passed = λ x y e. absurd (let z : ◌≡◌ {A = ℕ} 0 1 = cc in omega arith)
+  walk_found zero at format passed = λ p e. absurd (let z : ◌≡◌ {A = ℕ} 0 1 = cc in omega arith)
   walk_found (suc n) at format passed =
       pick_case Sound (ltb (head_length s) (at + 8)) _ _
-      (λ t x y e. absurd (let z : ◌≡◌ {A = ℕ} 0 1 = cc in omega arith))
+      (λ t p e. absurd (let z : ◌≡◌ {A = ℕ} 0 1 = cc in omega arith))
       (λ t.
       pick_case Sound (eqb (id_at s at) data_id) _ _
       (λ d. found_sound format at passed (ltb-false (head_length s) (at + 8) t))
@@ -79,7 +82,7 @@ module _ (s : List ℕ) where
   walk_more zero k at format h = walk_past (0 + k) at format (omega arith)
   walk_more (suc n) k at format h =
       let e : suc n + k ≡ suc (n + k) = omega arith in
-      ap (λ (m : ℕ). chunks_from s m at format) e ∙ ap (λ (c : Chunks). pick (ltb (head_length s) (at + 8)) NoData (pick (eqb (id_at s at) data_id) (found_at format at) c))
+      ap (λ (m : ℕ). chunks_from s m at format) e ∙ ap (λ (c : Result Places Reason). pick (ltb (head_length s) (at + 8)) (Err NoData) (pick (eqb (id_at s at) data_id) (found_at format at) c))
       (walk_more n k (behind s at) (format_past s at format) (omega arith))
 
   pub walk_ends : (k : ℕ) → chunks_from s (8192 + k) 12 0 ≡ chunks_of s

@@ -1,10 +1,11 @@
 -- A RIFF file of the form WAVE: "RIFF", a size, "WAVE", and then chunks. A chunk is an id of four letters, a size, so many bytes, and one more behind them where the size is odd.
-use Rattle.std.specs.Prelude.{ℕ, zero, suc, ◌+◌, ◌%◌, min, List, [], ◌∷◌, ltb, eqb, length}
+use Rattle.std.specs.Prelude.{ℕ, zero, suc, ◌+◌, ◌%◌, min, List, [], ◌∷◌, ltb, eqb, length, Result, Ok, Err}
 use Rattle.answers.specs.Pick.{pick}
 use Rattle.recording.specs.Bytes.{number}
 use Rattle.recording.specs.Recording.{u32_at}
-use Rattle.wav.specs.declared.Chunks.{Chunks}
-use Rattle.wav.specs.declared.Chunks.TheVariants.{Found, NoFormat, NoData}
+use Rattle.wav.specs.declared.Places.{Places}
+use Rattle.wav.specs.declared.Reason.{Reason}
+use Rattle.wav.specs.declared.Reason.TheVariants.{NoFormat, NoData}
 
 -- The head of a file: its first 65,536 bytes, or all of them where there are fewer. The chunks up to the samples must begin in it.
 abbrev pub head_length : List ℕ → ℕ
@@ -40,17 +41,17 @@ abbrev pub format_past : List ℕ → ℕ → ℕ → ℕ
 format_past s at format = pick (eqb (id_at s at) format_id) at format
 
 -- The samples' chunk ends the walk; a format must have come before it.
-abbrev pub found_at : ℕ → ℕ → Chunks
-found_at format samples = pick (eqb format 0) NoFormat (Found format samples)
+abbrev pub found_at : ℕ → ℕ → Result Places Reason
+found_at format samples = pick (eqb format 0) (Err NoFormat) (Ok (record { format = format; samples = samples }))
 
 -- Walks over at most so many chunks, from the one that begins at `at` on. `format` is where the chunk of the format begins, 0 where none was passed. A chunk of another id is skipped.
-unfoldable pub chunks_from : List ℕ → ℕ → ℕ → ℕ → Chunks
-chunks_from s zero at format = NoData
+unfoldable pub chunks_from : List ℕ → ℕ → ℕ → ℕ → Result Places Reason
+chunks_from s zero at format = Err NoData
 chunks_from s (suc left) at format =
-    pick (ltb (head_length s) (at + 8)) NoData (
+    pick (ltb (head_length s) (at + 8)) (Err NoData) (
     pick (eqb (id_at s at) data_id) (found_at format at)
     (chunks_from s left (behind s at) (format_past s at format)))
 
 -- A chunk has at least eight bytes, so that the head holds no more than 8,192 of them (theorem `Walk-Ends`).
-abbrev pub chunks_of : List ℕ → Chunks
+abbrev pub chunks_of : List ℕ → Result Places Reason
 chunks_of s = chunks_from s 8192 12 0

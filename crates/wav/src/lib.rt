@@ -12,12 +12,11 @@ ghost use Rattle.wav.specs.Steps.{Reachable};
 
 use recording::{u16_at, u32_at};
 
-// Where the chunks of the format and of the samples begin, or which of them is missing.
+// Where the chunks of the format and of the samples begin.
 #[derive(Clone, Copy)]
-pub enum Chunks {
-    Found { format: usize, samples: usize },
-    NoFormat,
-    NoData,
+pub struct Places {
+    pub format: usize,
+    pub samples: usize,
 }
 
 // What a sample is: a signed number of 16 bits, or a float of 32.
@@ -50,7 +49,7 @@ pub struct Sound {
 
 // Why a file is refused. OtherFormat: compressed, or of a tag that is not known. OtherFrame: no channels, or the bytes of a frame are not those of its samples.
 // NoData: the samples do not begin within the head. Cut: they run past the file's end. NotWhole: the last frame is not whole.
-#[derive(Clone, Copy)]
+#[derive(Clone, Copy, Debug)]
 pub enum Reason {
     NotRiff,
     NotWave,
@@ -63,12 +62,6 @@ pub enum Reason {
     OtherRate(u32),
     Cut,
     NotWhole,
-}
-
-#[derive(Clone, Copy)]
-pub enum Answer {
-    Opened(Sound),
-    Refused(Reason),
 }
 
 // How many bytes of a file are looked at for its chunks.
@@ -107,17 +100,17 @@ fn format_past(id: u32, at: usize, format: usize) -> usize
     format
 }
 
-fn found_at(format: usize, samples: usize) -> Chunks
+fn found_at(format: usize, samples: usize) -> Result<Places, Reason>
     ensures { result ≡ found_at format samples }
 {
     if format == 0 {
-        return Chunks::NoFormat;
+        return Err(Reason::NoFormat);
     }
-    Chunks::Found { format, samples }
+    Ok(Places { format, samples })
 }
 
 // Walks from chunk to chunk, up to the samples.
-fn chunks_of(head: &[u8]) -> Chunks
+fn chunks_of(head: &[u8]) -> Result<Places, Reason>
     ensures { result ≡ chunks_of head.now }
 {
     let end = head_length(head);
@@ -126,7 +119,7 @@ fn chunks_of(head: &[u8]) -> Chunks
     let mut format: usize = 0;
     while 0 < left {
         if end < at + 8 {
-            return Chunks::NoData;
+            return Err(Reason::NoData);
         }
         let id = u32_at(head, at);
         if id == DATA {
@@ -136,7 +129,7 @@ fn chunks_of(head: &[u8]) -> Chunks
         at = behind(head, at);
         left -= 1;
     }
-    Chunks::NoData
+    Err(Reason::NoData)
 }
 
 // ---- the format
@@ -197,27 +190,27 @@ fn whole_frame(kind: Kind, channels: u16, align: u16) -> bool
     align as u32 == frame_of(kind, channels)
 }
 
-fn sound_of(kind: Kind, f: Format, at: u64, size: u32, length: u64) -> Answer
+fn sound_of(kind: Kind, f: Format, at: u64, size: u32, length: u64) -> Result<Sound, Reason>
     requires { at ≤ 65536 }
     ensures { result ≡ sound_of kind f at size length }
 {
     if f.bits as u32 != 8 * width_of(kind) {
-        return Answer::Refused(Reason::OtherBits(f.bits));
+        return Err(Reason::OtherBits(f.bits));
     }
     if !whole_frame(kind, f.channels, f.align) {
-        return Answer::Refused(Reason::OtherFrame);
+        return Err(Reason::OtherFrame);
     }
     if !answers::allowed_rate(f.rate) {
-        return Answer::Refused(Reason::OtherRate(f.rate));
+        return Err(Reason::OtherRate(f.rate));
     }
     if length < at + size as u64 {
-        return Answer::Refused(Reason::Cut);
+        return Err(Reason::Cut);
     }
     let align = f.align as u32;
     if size % align != 0 {
-        return Answer::Refused(Reason::NotWhole);
+        return Err(Reason::NotWhole);
     }
-    Answer::Opened(Sound {
+    Ok(Sound {
         kind,
         channels: f.channels,
         rate: f.rate,
@@ -227,7 +220,7 @@ fn sound_of(kind: Kind, f: Format, at: u64, size: u32, length: u64) -> Answer
     })
 }
 
-fn judged(f: Format, at: u64, size: u32, length: u64) -> Answer
+fn judged(f: Format, at: u64, size: u32, length: u64) -> Result<Sound, Reason>
     requires { at ≤ 65536 }
     ensures { result ≡ Wave.judged f at size length }
 {
@@ -237,16 +230,16 @@ fn judged(f: Format, at: u64, size: u32, length: u64) -> Answer
     if f.tag == 3 {
         return sound_of(Kind::Single, f, at, size, length);
     }
-    Answer::Refused(Reason::OtherFormat(f.tag))
+    Err(Reason::OtherFormat(f.tag))
 }
 
-fn described(head: &[u8], format: usize, samples: usize, length: u64) -> Answer
+fn described(head: &[u8], format: usize, samples: usize, length: u64) -> Result<Sound, Reason>
     requires { (format + 8 + size_at head.now format ≤ samples) × (samples + 8 ≤ head_length head.now) }
     ensures { result ≡ Wave.described head.now format samples length }
 {
     let has = u32_at(head, format + 4);
     if has < 16 {
-        return Answer::Refused(Reason::ShortFormat);
+        return Err(Reason::ShortFormat);
     }
     let at = samples as u64 + 8;
     let size = u32_at(head, samples + 4);
@@ -255,34 +248,30 @@ fn described(head: &[u8], format: usize, samples: usize, length: u64) -> Answer
         return judged(format_with(tag, head, format), at, size, length);
     }
     if has < 40 {
-        return Answer::Refused(Reason::ShortFormat);
+        return Err(Reason::ShortFormat);
     }
     if !names_tag(head, format) {
-        return Answer::Refused(Reason::OtherFormat(65534));
+        return Err(Reason::OtherFormat(65534));
     }
     let sub = u16_at(head, format + 32);
     judged(format_with(sub, head, format), at, size, length)
 }
 
 // Opens a file of so many bytes by its head.
-pub fn open(head: &[u8], length: u64) -> Answer
+pub fn open(head: &[u8], length: u64) -> Result<Sound, Reason>
     ensures { result ≡ Wave.opened_wave head.now length }
 {
     if head_length(head) < 12 {
-        return Answer::Refused(Reason::NotRiff);
+        return Err(Reason::NotRiff);
     }
     if u32_at(head, 0) != RIFF {
-        return Answer::Refused(Reason::NotRiff);
+        return Err(Reason::NotRiff);
     }
     if u32_at(head, 8) != WAVE {
-        return Answer::Refused(Reason::NotWave);
+        return Err(Reason::NotWave);
     }
-    let chunks = chunks_of(head);
-    match chunks {
-        Chunks::NoData => Answer::Refused(Reason::NoData),
-        Chunks::NoFormat => Answer::Refused(Reason::NoFormat),
-        Chunks::Found { format, samples } => described(head, format, samples, length),
-    }
+    let places = chunks_of(head)?;
+    described(head, places.format, places.samples, length)
 }
 
 // ---- one channel

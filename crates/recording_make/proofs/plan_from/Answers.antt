@@ -5,7 +5,7 @@ use Rattle.recording.specs.declared.Form.{Form}
 use Rattle.recording_make.proofs.Laws.{within_least, plan_fits}
 use Rattle.answers.proofs.Cases.{cases}
 use Rattle.recording_make.specs.Making.{plan_of, planned}
-use Rattle.recording_make.specs.declared.Planned.TheVariants.{Fits}
+use Rattle.std.specs.Prelude.{Ok}
 use Rattle.recording_make.proofs.plan_from.Goals as goal
 
 pub returns-then-not-same_kind : goal.returns-then-not-same_kind
@@ -36,7 +36,7 @@ plan_of-requires c =
 pub returns : goal.returns
 returns c =
     let a = c.args in
-    ap Fits (c.plan_of.ensures ∙ ap (λ (form : Form). plan_of form a.far.rate a.ceiling a.far.frames a.near.frames a.start) c.form_of-form.ensures) ∙
+    ap Ok (c.plan_of.ensures ∙ ap (λ (form : Form). plan_of form a.far.rate a.ceiling a.far.frames a.near.frames a.start) c.form_of-form.ensures) ∙
     sym (
     plan_fits a.far a.near a.ceiling a.start
     (search (cases, ← c.same_kind.ensures))

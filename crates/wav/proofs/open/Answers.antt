@@ -1,6 +1,8 @@
 -- `wav::open` meets its contract: test by test; the walk says that both chunks are within the head.
-use mathlib.Core.Path.{sym, ◌∙◌}
+use borrow.Author.Rules.{rules}
+use mathlib.Core.Path.{◌≡◌, sym, ◌∙◌}
 use native.Mathlib.Omega.{arith}
+use Rattle.std.specs.Prelude.{Ok, Err}
 use Rattle.answers.proofs.Cases.{cases}
 use Rattle.wav.specs.Wave.{opened_wave}
 use Rattle.wav.proofs.Walk.{walk_found}
@@ -19,16 +21,16 @@ unfolding opened_wave
 returns-then-u32_at-ne-WAVE c = search (cases, ← c.head_length.ensures, ← c.u32_at.ensures, ← c.u32_at-2.ensures)
 
 pub described-requires : goal.described-requires
-described-requires c = walk_found c.args.head.now 8192 12 0 (λ h. absurd (omega arith)) _ _ (sym c.chunks_of-chunks.ensures ∙ c.in-Found.is)
+described-requires c =
+    let found : c.chunks_of.result ≡ Ok c.in_ok-places.places = search rules in
+    walk_found c.args.head.now 8192 12 0 (λ h. absurd (omega arith)) _ (sym c.chunks_of.ensures ∙ found)
 
-pub returns-in-NoData : goal.returns-in-NoData
+pub returns-in_err-places : goal.returns-in_err-places
 unfolding opened_wave
-returns-in-NoData c = search (cases, ← c.head_length.ensures, ← c.u32_at.ensures, ← c.u32_at-2.ensures, ← c.chunks_of-chunks.ensures, c.in-NoData.is)
+returns-in_err-places c = search (cases, ← c.head_length.ensures, ← c.u32_at.ensures, ← c.u32_at-2.ensures, ← c.chunks_of.ensures, c.in_err-places.was, rules)
 
-pub returns-in-NoFormat : goal.returns-in-NoFormat
+pub returns : goal.returns
 unfolding opened_wave
-returns-in-NoFormat c = search (cases, ← c.head_length.ensures, ← c.u32_at.ensures, ← c.u32_at-2.ensures, ← c.chunks_of-chunks.ensures, c.in-NoFormat.is)
-
-pub returns-in-Found : goal.returns-in-Found
-unfolding opened_wave
-returns-in-Found c = search (cases, ← c.head_length.ensures, ← c.u32_at.ensures, ← c.u32_at-2.ensures, ← c.chunks_of-chunks.ensures, c.in-Found.is, ← c.described.ensures)
+returns c =
+    let found : c.chunks_of.result ≡ Ok c.in_ok-places.places = search rules in
+    search (cases, ← c.head_length.ensures, ← c.u32_at.ensures, ← c.u32_at-2.ensures, ← c.chunks_of.ensures, found, ← c.described.ensures)
