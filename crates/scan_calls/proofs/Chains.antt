@@ -14,13 +14,6 @@ module _ {r t : Bool} (is : r ≡ t) where
   pub no : {A : Type 0} {b x : A} (a : A) → r ≡ false → x ≡ b → x ≡ pick t a b
   no a h e = e ∙ sym (pick_false t a _ (sym is ∙ h))
 
-  -- `if !r` leaves a chain of tests
-  pub fails : (u : Bool) → not r ≡ true → false ≡ both t u
-  fails u h = no u (not-true r h) refl
-
-  pub holds : {u x : Bool} → not r ≡ false → x ≡ u → x ≡ both t u
-  holds h e = yes false (not-false r h) e
-
   -- `if !r` refuses
   pub refuses : (n rest : ℕ) → not r ≡ true → n ≡ require t n rest
   refuses n rest h = no rest (not-true r h) refl
