@@ -80,7 +80,11 @@ def constants(text):
 
 
 def case_numbers(text, case):
-    """The numbers that the arms of a case have: `Enum::Case.. => 17,` or `=> { .. 17 }`."""
+    """The numbers that the arms of a case have: `Enum::Case.. => 17,` or `=> { .. 17 }`. A case of an Option or Result is named by the function that tells it: `tell_place::None`."""
+    where, arm = case.split("::")
+    if where.islower():
+        text = re.search(r"fn " + where + r"\b.*?\n\}\n", text, flags=re.S)[0]
+        case = arm
     arms = re.findall(re.escape(case) + r"(?:\([^)]*\))? => (\{.*?\n\s*\}|[^\n]*),?\n", text, flags=re.S)
     ends = (re.search(r"(\d+),?\s*\}?$", arm.rstrip()) for arm in arms)
     return {int(end[1]) for end in ends if end}
