@@ -1,5 +1,5 @@
 // The files of a suite: records of one length, one after the other, and rows of numbers in a record.
-ghost use Rattle.std.specs.Prelude.{◌-◌, ◌≤◌};
+ghost use Rattle.std.specs.Iterator.{at_most};
 
 use pipes::{named, rooms};
 use std::fs::{File, OpenOptions};
@@ -15,50 +15,65 @@ pub fn open(rt: HostRuntime, path: &[u8]) -> Option<File> {
     }
 }
 
-// A record, as long as the slice, is read into it, and a turn is over: the answer is the turns left. It is 0 where the file has no whole record more,
-// or this was the last turn; then there is no record to look at. A loop over a file starts with the most turns that it may take.
-pub fn next(from: Option<&File>, record: &mut [u8], turns: u32) -> u32
-    ensures { result ≤ turns - 1 }
-{
-    if turns == 0 {
-        return 0;
-    }
-    if rooms::fill(from, &mut *record) < record.len() {
-        return 0;
-    }
-    turns - 1
+// The whole records of a file that are left, so many at most.
+#[derive(Drop)]
+pub struct Records<'a, const N: usize> {
+    from: Option<&'a File>,
+    most: u32,
 }
 
-// Where the number at a place of a record is this one, the place behind it; else 0.
-fn place_after(record: &[u8], at: usize, width: usize, n: u64) -> usize {
-    if at > record.len() {
-        return 0;
+impl<'a, const N: usize> Records<'a, N> {
+    pub fn of(from: Option<&'a File>, most: u32) -> Records<'a, N> {
+        Records { from, most }
     }
-    if width > record.len() - at {
-        return 0;
-    }
-    if crate::number(record, at, width) != n {
-        return 0;
-    }
-    at + width
 }
 
-fn width_of(longs: u64) -> usize {
-    if longs % 2 == 1 { 8 } else { 4 }
-}
+impl<'a, const N: usize> Iterator for Records<'a, N> {
+    type Item = [u8; N];
 
-// Whether these numbers stand in a record from a place on: in 8 bytes where `longs` has a bit for the number, its lowest for the first, else in 4.
-pub fn has_row(record: &[u8], from: usize, longs: u64, row: &[u64]) -> bool {
-    let mut at = from;
-    let mut rest = longs;
-    let mut i = 0;
-    while i < row.len() {
-        at = place_after(record, at, width_of(rest), row[i]);
-        if at == 0 {
-            return false;
+    ghost remaining = { λ s. at_most s.most };
+
+    fn next(&mut self) -> Option<[u8; N]> {
+        if self.most == 0 {
+            return None;
         }
-        rest = rest / 2;
-        i += 1;
+        self.most -= 1;
+        let mut record = [0u8; N];
+        let n = rooms::fill(self.from, &mut record);
+        if n == N { Some(record) } else { None }
     }
-    true
+
+    // The one that every iterator has asks for an N below 2^63.
+    fn size_hint(&self) -> (usize, Option<usize>) {
+        (0, Some(self.most as usize))
+    }
+}
+
+// A number as a record has it: in four bytes, or in eight.
+#[derive(Clone, Copy)]
+pub enum Stands {
+    InFour(u64),
+    InEight(u64),
+}
+
+impl Stands {
+    // Where the number stands at a place of a record, the place behind it.
+    fn behind(self, record: &[u8], at: usize) -> Option<usize> {
+        let (n, width) = match self {
+            Stands::InFour(n) => (n, 4),
+            Stands::InEight(n) => (n, 8),
+        };
+        let found = record.get(at..)?.get(..width)?;
+        if crate::number(found, 0, width) == n {
+            return at.checked_add(width);
+        }
+        None
+    }
+}
+
+// Whether these numbers stand in a record, one behind the other, from a place on.
+pub fn has_row(record: &[u8], from: usize, row: &[Stands]) -> bool {
+    row.iter()
+        .try_fold(from, |at, number| number.behind(record, at))
+        .is_some()
 }

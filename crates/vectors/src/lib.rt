@@ -1,4 +1,4 @@
-// What the programs that replay stored vectors share: little-endian numbers, made-up samples, patterns of floats, and the tally that they write.
+// What the programs that replay stored vectors share: records, little-endian numbers, made-up samples, patterns of floats, and the tally that they write.
 #![tactic(auto)]
 
 pub mod buffers; // parts of buffers, and entries that records write
@@ -20,28 +20,21 @@ pub struct Tally {
     pub different: u64,
 }
 
-fn wide(b: u8) -> u64 {
-    b as u64
-}
-
 // The little-endian number in the `width` bytes from `at` on.
 pub fn number(bytes: &[u8], at: usize, width: usize) -> u64
     requires { at + width ≤ length bytes.now }
 {
-    let mut n: u64 = 0;
-    let mut i = width;
-    while 0 < i {
-        i = i - 1;
-        n = (n << 8) | wide(bytes[at + i]);
-    }
-    n
+    bytes[at..at + width]
+        .iter()
+        .rev()
+        .fold(0, |n, b| (n << 8) | u64::from(*b))
 }
 
 // The same of four bytes.
 pub fn number32(bytes: &[u8], at: usize) -> u32
     requires { at + 4 ≤ length bytes.now }
 {
-    (number(bytes, at, 4) % 0x1_0000_0000) as u32
+    u32::from_le_bytes([bytes[at], bytes[at + 1], bytes[at + 2], bytes[at + 3]])
 }
 
 impl Tally {
@@ -54,23 +47,28 @@ impl Tally {
         }
     }
 
-    // One more call. The first five that differ are named, counted from 0.
+    // One more call. Of the first five that differ `tell` says which, the one that it is given being counted from 0.
+    pub fn met<F: FnOnce(Stdout, u64)>(self, main: bool, same: bool, tell: F) -> Tally
+        requires { F.IsAlwaysCallable tell }
+    {
+        if !same && self.different < 5 {
+            tell(self.out, self.calls);
+        }
+        Tally {
+            calls: self.calls.saturating_add(1),
+            main: self.main.saturating_add(u64::from(main)),
+            different: self.different.saturating_add(u64::from(!same)),
+            ..self
+        }
+    }
+
+    // The same where its number is all that is said of it.
     pub fn saw(self, main: bool, same: bool) -> Tally {
-        let mut next = self;
-        next.calls = answers::next_long_count(self.calls);
-        if main {
-            next.main = answers::next_long_count(self.main);
-        }
-        if same {
-            return next;
-        }
-        if self.different < 5 {
-            told::put(self.out, b"  differs: call ");
-            told::put_number(self.out, self.calls);
-            told::put(self.out, b"\n");
-        }
-        next.different = answers::next_long_count(self.different);
-        next
+        self.met(main, same, |out, call| {
+            told::put(out, b"  differs: call ");
+            told::put_number(out, call);
+            told::put(out, b"\n");
+        })
     }
 
     fn tried(self, what: &[u8]) {

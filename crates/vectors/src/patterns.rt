@@ -1,40 +1,93 @@
-// The hash that stands for a whole buffer: of the bit patterns of its floats.
-ghost use Rattle.std.specs.Prelude.{◌^◌, ◌<◌};
+// Floats of both widths by their bit patterns, and the hash that stands for a whole buffer of them.
+ghost use Rattle.std.specs.Prelude.{◌≤◌, ◌<◌};
 
 use floats::bits;
+use pipes::rooms;
+use std::fs::File;
 
-// A hash goes on with one more word.
-fn hashed(h: u64, word: u64) -> u64
-    requires { (h < 4294967291) × (word < 2 ^ 32) }
-    ensures { result < 4294967291 }
-{
-    (h * 16777619 + word) % 4294967291
+// The hash of a list of words so far.
+#[derive(Clone, Copy)]
+pub struct Running {
+    so_far: u64,
+    ghost below: { so_far < 4294967291 },
 }
 
-// A pattern of 64 bits is two words, the low one first.
-fn hashed_twice(h: u64, bits: u64) -> u64
-    requires { h < 4294967291 }
-    ensures { result < 4294967291 }
-{
-    hashed(hashed(h, bits % 0x1_0000_0000), bits / 0x1_0000_0000)
-}
-
-pub fn hash32(xs: &[f32]) -> u64 {
-    let mut h = 1;
-    let mut i = 0;
-    while i < xs.len() {
-        h = hashed(h, bits::pattern32(xs[i]) as u64);
-        i += 1;
+impl Running {
+    fn new() -> Running {
+        Running { so_far: 1 }
     }
-    h
+
+    // One more word.
+    fn then(self, word: u32) -> Running {
+        Running {
+            so_far: (self.so_far * 16777619 + word as u64) % 4294967291,
+        }
+    }
 }
 
-pub fn hash64(xs: &[f64]) -> u64 {
-    let mut h = 1;
-    let mut i = 0;
-    while i < xs.len() {
-        h = hashed_twice(h, bits::pattern64(xs[i]));
-        i += 1;
+// A float that a file holds by its bits, in so many bytes.
+pub trait Stored: Copy {
+    fn width() -> usize
+        ensures { result ≤ 8 };
+
+    fn pattern(self) -> u64;
+
+    // Bits that the float has no room for are left out.
+    fn of(pattern: u64) -> Self;
+
+    // A hash goes on with its words, the low one first.
+    fn hashed(self, h: Running) -> Running;
+}
+
+impl Stored for f32 {
+    fn width() -> usize
+        ensures { result ≤ 8 }
+    {
+        4
     }
-    h
+
+    fn pattern(self) -> u64 {
+        bits::pattern32(self) as u64
+    }
+
+    fn of(pattern: u64) -> f32 {
+        bits::float32((pattern % 0x1_0000_0000) as u32)
+    }
+
+    fn hashed(self, h: Running) -> Running {
+        h.then(bits::pattern32(self))
+    }
+}
+
+impl Stored for f64 {
+    fn width() -> usize
+        ensures { result ≤ 8 }
+    {
+        8
+    }
+
+    fn pattern(self) -> u64 {
+        bits::pattern64(self)
+    }
+
+    fn of(pattern: u64) -> f64 {
+        bits::float64(pattern)
+    }
+
+    fn hashed(self, h: Running) -> Running {
+        let pattern = bits::pattern64(self);
+        h.then((pattern % 0x1_0000_0000) as u32)
+            .then((pattern / 0x1_0000_0000) as u32)
+    }
+}
+
+// The pattern of the next float of a file.
+pub fn next<T: Stored>(from: Option<&File>) -> u64 {
+    let mut bytes = [0u8; 8];
+    rooms::fill(from, &mut bytes[..T::width()]);
+    crate::number(&bytes, 0, 8)
+}
+
+pub fn hash<T: Stored>(xs: &[T]) -> u64 {
+    xs.iter().fold(Running::new(), |h, x| x.hashed(h)).so_far
 }

@@ -45,18 +45,12 @@ pub fn read(bytes: &[u8], at: usize) -> Signal
 
 // A period of 0 is none.
 fn in_period(place: u64, period: u32) -> u64 {
-    if period == 0 {
-        return place;
-    }
-    place % period as u64
+    place.checked_rem(period as u64).unwrap_or(place)
 }
 
 // A record whose signal is not used has hold 0.
 fn held(n: u64, hold: u64) -> u64 {
-    if hold == 0 {
-        return n;
-    }
-    n / hold
+    n.checked_div(hold).unwrap_or(n)
 }
 
 impl Signal {
@@ -73,10 +67,8 @@ impl Signal {
 
     // The samples from `place` on.
     pub fn fill(self, out: &mut [f32], place: u64) {
-        let mut i = 0;
-        while i < out.len() {
-            out[i] = self.at(place.wrapping_add(i as u64));
-            i += 1;
+        for (i, sample) in out.iter_mut().enumerate() {
+            *sample = self.at(place.wrapping_add(i as u64));
         }
     }
 }
