@@ -12,8 +12,6 @@ pub type Sums = [f64; 4520];
 pub type Lags = [f64; 4249];
 
 // Long enough for the largest scan, of 1,062 bins a second and ceiling 4,000; a smaller one is lent a part of each.
-// They go from call to call by value: a function that lends seven slices on takes seconds to check. The fields that the scoring lends last stand
-// first, where the search for their lengths finds them.
 #[derive(Clone, Copy)]
 pub struct Buffers {
     pub sums: Lags,
@@ -25,22 +23,27 @@ pub struct Buffers {
     pub envelope: Envelope,
 }
 
-// Before a scan is made every buffer is all 0, but for the envelope and the lag sums, which its making itself has to write, and the levels, of
-// which it has none.
-pub fn blank(envelope: Envelope, levels: Levels, sums: Lags) -> Buffers {
-    Buffers {
-        envelope,
-        levels,
-        window: [0.0; 4519],
-        prefix: [0.0; 4520],
-        squares: [0.0; 4520],
-        scores: [0.0; 4249],
-        sums,
+impl Buffers {
+    pub fn blank() -> Buffers {
+        Buffers {
+            envelope: [0.0; 8519],
+            levels: [0.0; 271],
+            window: [0.0; 4519],
+            prefix: [0.0; 4520],
+            squares: [0.0; 4520],
+            scores: [0.0; 4249],
+            sums: [0.0; 4249],
+        }
     }
-}
 
-pub fn all_blank() -> Buffers {
-    blank([0.0; 8519], [0.0; 271], [0.0; 4249])
+    // Before a scan is made every buffer is all 0, but for the envelope and the lag sums, which its making itself has to write, and the levels, of
+    // which it has none.
+    pub fn blank_scratch(&mut self) {
+        self.window.fill(0.0);
+        self.prefix.fill(0.0);
+        self.squares.fill(0.0);
+        self.scores.fill(0.0);
+    }
 }
 
 // How much of each buffer a scan is lent.

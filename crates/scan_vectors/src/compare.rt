@@ -6,41 +6,38 @@ use answers::{Count, Flag};
 use floats::bits;
 use scan::{Found, LevelReport, Region, RegionReport, Scan};
 use scan_calls::reports;
-use vectors::buffers::{hash32_first, hash64_first};
-use vectors::files::has_row;
+use vectors::buffers::hash_first;
+use vectors::files::Stands::{InEight, InFour};
+use vectors::files::{Stands, has_row};
 
 // ---- the state
 
-fn far_row(scan: Scan) -> [u64; 5] {
+fn far_row(scan: Scan) -> [Stands; 5] {
     let far = scan.far;
     [
-        bits::pattern32(scan.verdict.last) as u64,
-        far.next,
-        bits::pattern64(far.sum),
-        far.accepted,
-        far.count,
+        InFour(bits::pattern32(scan.verdict.last) as u64),
+        InEight(far.next),
+        InEight(bits::pattern64(far.sum)),
+        InEight(far.accepted),
+        InFour(far.count),
     ]
 }
 
-fn near_row(scan: Scan) -> [u64; 5] {
+fn near_row(scan: Scan) -> [Stands; 5] {
     let near = scan.near;
     [
-        near.len,
-        bits::pattern64(near.sum),
-        near.first,
-        near.count,
-        scan.verdict.banked as u64,
+        InFour(near.len),
+        InEight(bits::pattern64(near.sum)),
+        InEight(near.first),
+        InFour(near.count),
+        InFour(scan.verdict.banked as u64),
     ]
 }
 
 fn same_state(scan: Scan, record: &Record) -> bool {
-    if !has_row(record, 44, 0b01110, &far_row(scan)) {
-        return false;
-    }
-    if !has_row(record, 76, 0b00110, &near_row(scan)) {
-        return false;
-    }
-    vectors::number(record, 160, 8) == scan.near.last
+    has_row(record, 44, &far_row(scan))
+        && has_row(record, 76, &near_row(scan))
+        && vectors::number(record, 160, 8) == scan.near.last
 }
 
 // ---- the reports
@@ -110,43 +107,34 @@ fn flags(scan: Scan) -> u64 {
 
 fn same_reports(scan: Scan, record: &Record) -> bool {
     let told = region(reports::region(scan));
-    if told.flag | flags(scan) != vectors::number(record, 2, 1) & 0xef {
-        return false;
-    }
     let row = [
-        count(reports::frames(scan)),
-        level(reports::correlation(scan)),
-        told.delay,
-        told.correlation,
+        InFour(count(reports::frames(scan))),
+        InFour(level(reports::correlation(scan))),
+        InEight(told.delay),
+        InEight(told.correlation),
     ];
-    has_row(record, 104, 0b1100, &row)
+    told.flag | flags(scan) == u64::from(record[2]) & 0xef && has_row(record, 104, &row)
 }
 
 // ---- the buffers, by their hashes
 
 // Of the levels those that the frame under way has.
-fn hashes(scan: Scan, b: Buffers) -> [u64; 7] {
+fn hashes(scan: Scan, b: &Buffers) -> [Stands; 7] {
     let lengths = buffers::lengths_of(scan.geometry.rate, scan.geometry.ceiling);
     [
-        hash32_first(&b.envelope, lengths.envelope),
-        hash32_first(&b.levels, scan.near.len),
-        hash32_first(&b.window, lengths.window),
-        hash64_first(&b.prefix, lengths.sums),
-        hash64_first(&b.squares, lengths.sums),
-        hash64_first(&b.scores, lengths.lags),
-        hash64_first(&b.sums, lengths.lags),
+        InFour(hash_first(&b.envelope, lengths.envelope)),
+        InFour(hash_first(&b.levels, scan.near.len)),
+        InFour(hash_first(&b.window, lengths.window)),
+        InFour(hash_first(&b.prefix, lengths.sums)),
+        InFour(hash_first(&b.squares, lengths.sums)),
+        InFour(hash_first(&b.scores, lengths.lags)),
+        InFour(hash_first(&b.sums, lengths.lags)),
     ]
 }
 
-pub fn same(scan: Scan, buffers: Buffers, answer: u64, record: &Record) -> bool {
-    if answer != vectors::number(record, 1, 1) {
-        return false;
-    }
-    if !has_row(record, 128, 0, &hashes(scan, buffers)) {
-        return false;
-    }
-    if !same_state(scan, record) {
-        return false;
-    }
-    same_reports(scan, record)
+pub fn same(scan: Scan, buffers: &Buffers, answer: u64, record: &Record) -> bool {
+    answer == u64::from(record[1])
+        && has_row(record, 128, &hashes(scan, buffers))
+        && same_state(scan, record)
+        && same_reports(scan, record)
 }

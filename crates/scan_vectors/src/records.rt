@@ -1,14 +1,55 @@
 // A record of the file: the call, and what its answer is to be.
-use crate::buffers::Buffers;
 use scan::Scan;
 use vectors::signals::Signal;
 
 pub type Record = [u8; 168];
 
+// Which call a record has: one of the scan, or what it makes up.
+#[derive(Clone, Copy, PartialEq, Eq)]
+pub enum Kind {
+    New,
+    PushFar,
+    PushNear,
+    Score,
+    Rearm,
+    DiscardNear,
+    Reset,
+    History,
+    FullFrame,
+    EnvelopeSlot,
+    Level,
+    AllSums,
+    Sum,
+    Counts,
+    Nothing,
+}
+
+impl From<u8> for Kind {
+    fn from(number: u8) -> Kind {
+        match number {
+            1 => Kind::New,
+            2 => Kind::PushFar,
+            3 => Kind::PushNear,
+            4 => Kind::Score,
+            5 => Kind::Rearm,
+            6 => Kind::DiscardNear,
+            0 | 7 => Kind::Reset,
+            11 => Kind::History,
+            12 => Kind::FullFrame,
+            13 => Kind::EnvelopeSlot,
+            14 => Kind::Level,
+            15 => Kind::AllSums,
+            16 => Kind::Sum,
+            17 => Kind::Counts,
+            _ => Kind::Nothing,
+        }
+    }
+}
+
 // What a call is given.
 #[derive(Clone, Copy)]
 pub struct Call {
-    pub kind: u64,
+    pub kind: Kind,
     pub count: u32,
     pub number: u64,
     pub place: u64,
@@ -29,15 +70,14 @@ pub fn call_of(record: &Record) -> Call {
     }
 }
 
-pub fn kind_of(record: &Record) -> u64 {
-    vectors::number(record, 0, 1)
+pub fn kind_of(record: &Record) -> Kind {
+    Kind::from(record[0])
 }
 
-// The scan and its buffers after a call, and the answer as a record has it.
+// The scan after a call, and the answer as a record has it.
 #[derive(Clone, Copy)]
 pub struct Done {
     pub scan: Scan,
-    pub buffers: Buffers,
     pub answer: u64,
 }
 
