@@ -1,9 +1,0 @@
--- `floats_suite::number` is safe and ends.
-use Prim.Native.Nat.{◌≤◌}
-use Rattle.floats_suite.proofs.number.Given as goal
-
-abbrev pub invariant-loop-i : goal.invariant-loop-i
-invariant-loop-i l = l.i ≤ 8
-
-abbrev pub decreases-loop-i : goal.decreases-loop-i
-decreases-loop-i l = l.i
