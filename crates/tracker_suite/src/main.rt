@@ -2,69 +2,75 @@
 // tests/tracker/README.md says how the files were made and what a record holds.
 #![tactic(auto)]
 
-ghost use Rattle.std.specs.Prelude.{◌+◌, ◌≤◌, length};
+ghost use Rattle.std.specs.Prelude.{◌+◌, ◌≤◌};
 
 use answers::{Change, Count, Flag};
-use pipes::rooms;
 use std::fs::File;
 use std::io::Stdout;
 use tracker::{Bands, Cycled, Outcome, Tracker, Trigger, Verdict};
 use units::Samples;
 use vectors::Tally;
+use vectors::files::Records;
 
+// A call with what it answers, and a rate with its bands.
+type Record = [u8; 64];
+
+type RateRecord = [u8; 24];
+
+// The call of a record: a tracker is made, its state is set to the one of the record, a cycle, or a discontinuity.
 #[derive(Clone, Copy)]
-struct Run {
-    tracker: Tracker,
-    tally: Tally,
+enum Call {
+    Make(u32),
+    Set(Tracker),
+    Cycle(Samples, Outcome),
+    Discontinuity,
 }
 
-// A run, and whether the file may have more.
-#[derive(Clone, Copy)]
-struct Step {
-    run: Run,
-    more: bool,
+fn delay(record: &Record, is: bool, at: usize) -> Option<Samples>
+    requires { at + 8 ≤ 64 }
+{
+    is.then_some(Samples(vectors::number(record, at, 8)))
 }
 
-// A verdict as a record has it: 0 where there is none, 1 hold, 2 move, 3 reacquire; the trigger from 1; where a move goes.
-#[derive(Clone, Copy)]
-struct Told {
-    verdict: u64,
-    trigger: u64,
-    to: u64,
+// Whether flag k of a record is set.
+fn flagged(record: &Record, k: u8) -> bool {
+    record[3] & k == k
 }
 
-fn trigger_number(t: Trigger) -> u64 {
-    match t {
-        Trigger::Edge => 1,
-        Trigger::Lost => 2,
-        Trigger::Jump => 3,
-        Trigger::Seam => 4,
+// The tracker that a record holds.
+fn stored(record: &Record) -> Tracker {
+    Tracker {
+        pending: delay(record, flagged(record, 1), 32),
+        prev: delay(record, flagged(record, 2), 40),
+        edges: vectors::number32(record, 48),
+        jumps: vectors::number32(record, 52),
+        unconfident: vectors::number32(record, 56),
+        suspect: flagged(record, 4),
+        largest: vectors::number32(record, 60),
+        ..Tracker::new(vectors::number32(record, 4)).tracker
     }
 }
 
-fn tell(v: Verdict) -> Told {
-    match v {
-        Verdict::Refused(n) => Told {
-            verdict: 0,
-            trigger: 0,
-            to: n as u64,
-        },
-        Verdict::Hold => Told {
-            verdict: 1,
-            trigger: 0,
-            to: 0,
-        },
-        Verdict::Move(d) => Told {
-            verdict: 2,
-            trigger: 0,
-            to: d.0,
-        },
-        Verdict::Reacquire(t) => Told {
-            verdict: 3,
-            trigger: trigger_number(t),
-            to: 0,
-        },
+fn call_of(record: &Record) -> Call {
+    let alignment = Samples(vectors::number(record, 8, 8));
+    let delay = Samples(vectors::number(record, 16, 8));
+    match record[0] {
+        1 => Call::Make(vectors::number32(record, 4)),
+        2 => Call::Set(stored(record)),
+        5 => Call::Cycle(alignment, Outcome::Unconfident),
+        8 => Call::Discontinuity,
+        kind => Call::Cycle(
+            alignment,
+            Outcome::Candidate {
+                delay,
+                interior: kind == 6,
+            },
+        ),
     }
+}
+
+fn is_cycle(record: &Record) -> bool {
+    (5..=7).contains(&record[0])
 }
 
 // No verdict is written as a refusal with 0.
@@ -75,44 +81,50 @@ fn no_verdict(a: Change) -> Verdict {
     }
 }
 
-fn same_verdict(v: Verdict, bytes: &[u8], at: usize) -> bool
-    requires { at + 64 ≤ length bytes.now }
-{
-    let t = tell(v);
-    if t.verdict != vectors::number(bytes, at + 1, 1) {
-        return false;
+fn called(t: Tracker, call: Call) -> Cycled {
+    match call {
+        Call::Make(rate) => {
+            let made = Tracker::new(rate);
+            Cycled {
+                tracker: made.tracker,
+                verdict: no_verdict(made.answer),
+            }
+        }
+        Call::Set(tracker) => Cycled {
+            tracker,
+            verdict: Verdict::Refused(0),
+        },
+        Call::Cycle(alignment, outcome) => t.on_cycle(alignment, outcome),
+        Call::Discontinuity => {
+            let seamed = t.on_discontinuity();
+            Cycled {
+                tracker: seamed.tracker,
+                verdict: no_verdict(seamed.answer),
+            }
+        }
     }
-    if t.trigger != vectors::number(bytes, at + 2, 1) {
-        return false;
-    }
-    t.to == vectors::number(bytes, at + 24, 8)
 }
 
-// Whether flag k of a record is set.
-fn flagged(bytes: &[u8], at: usize, k: u64) -> bool
-    requires { at + 64 ≤ length bytes.now }
-{
-    vectors::number(bytes, at + 3, 1) & k == k
-}
+// ---- whether it is as a record says
 
-fn delay_of(there: bool, n: u64) -> Option<Samples> {
-    if there {
-        return Some(Samples(n));
-    }
-    None
-}
-
-fn same_delay(d: Option<Samples>, there: bool, n: u64) -> bool {
-    match d {
-        None => !there,
-        Some(s) => there && s.0 == n,
-    }
+// A verdict as a record has it: 0 where there is none, 1 hold, 2 move, 3 reacquire; the trigger from 1; where a move goes.
+fn same_verdict(v: Verdict, record: &Record) -> bool {
+    let (verdict, trigger, to) = match v {
+        Verdict::Refused(n) => (0, 0, n as u64),
+        Verdict::Hold => (1, 0, 0),
+        Verdict::Move(d) => (2, 0, d.0),
+        Verdict::Reacquire(Trigger::Edge) => (3, 1, 0),
+        Verdict::Reacquire(Trigger::Lost) => (3, 2, 0),
+        Verdict::Reacquire(Trigger::Jump) => (3, 3, 0),
+        Verdict::Reacquire(Trigger::Seam) => (3, 4, 0),
+    };
+    verdict == record[1] && trigger == record[2] && to == vectors::number(record, 24, 8)
 }
 
 fn same_flag(f: Flag, is: bool) -> bool {
     match f {
         Flag::Refused(_) => false,
-        Flag::Is(b) => if is { b } else { !b },
+        Flag::Is(b) => b == is,
     }
 }
 
@@ -123,251 +135,67 @@ fn same_count(c: Count, n: u64) -> bool {
     }
 }
 
-fn same_runs(t: Tracker, bytes: &[u8], at: usize) -> bool
-    requires { at + 64 ≤ length bytes.now }
-{
-    if t.edges != vectors::number32(bytes, at + 48) {
-        return false;
-    }
-    if t.jumps != vectors::number32(bytes, at + 52) {
-        return false;
-    }
-    t.unconfident == vectors::number32(bytes, at + 56)
+fn same_runs(t: Tracker, record: &Record) -> bool {
+    t.edges == vectors::number32(record, 48)
+        && t.jumps == vectors::number32(record, 52)
+        && t.unconfident == vectors::number32(record, 56)
 }
 
-fn same_delays(t: Tracker, bytes: &[u8], at: usize) -> bool
-    requires { at + 64 ≤ length bytes.now }
-{
-    let pending = t.pending;
-    let prev = t.prev;
-    if !same_delay(
-        pending,
-        flagged(bytes, at, 1),
-        vectors::number(bytes, at + 32, 8),
-    ) {
-        return false;
-    }
-    same_delay(
-        prev,
-        flagged(bytes, at, 2),
-        vectors::number(bytes, at + 40, 8),
-    )
+fn same_delay(d: Option<Samples>, stored: Option<Samples>) -> bool {
+    d.map(|s| s.0) == stored.map(|s| s.0)
 }
 
-fn same_tracker(t: Tracker, bytes: &[u8], at: usize) -> bool
-    requires { at + 64 ≤ length bytes.now }
-{
-    if !same_delays(t, bytes, at) {
-        return false;
-    }
-    if !same_runs(t, bytes, at) {
-        return false;
-    }
-    if !same_count(t.longest_run(), vectors::number(bytes, at + 60, 4)) {
-        return false;
-    }
-    if !same_flag(t.suspect(), flagged(bytes, at, 4)) {
-        return false;
-    }
-    same_flag(t.quiescent(), flagged(bytes, at, 8))
+fn same_tracker(t: Tracker, record: &Record) -> bool {
+    same_delay(t.pending, delay(record, flagged(record, 1), 32))
+        && same_delay(t.prev, delay(record, flagged(record, 2), 40))
+        && same_runs(t, record)
+        && same_count(t.longest_run(), vectors::number(record, 60, 4))
+        && same_flag(t.suspect(), flagged(record, 4))
+        && same_flag(t.quiescent(), flagged(record, 8))
 }
 
-// The tracker that a record holds.
-fn stored(bytes: &[u8], at: usize) -> Tracker
-    requires { at + 64 ≤ length bytes.now }
-{
-    let rate = vectors::number32(bytes, at + 4);
-    let made = Tracker::new(rate);
-    let fresh = made.tracker;
-    let bands = fresh.bands;
-    Tracker {
-        rate,
-        bands,
-        pending: delay_of(flagged(bytes, at, 1), vectors::number(bytes, at + 32, 8)),
-        prev: delay_of(flagged(bytes, at, 2), vectors::number(bytes, at + 40, 8)),
-        edges: vectors::number32(bytes, at + 48),
-        jumps: vectors::number32(bytes, at + 52),
-        unconfident: vectors::number32(bytes, at + 56),
-        suspect: flagged(bytes, at, 4),
-        largest: vectors::number32(bytes, at + 60),
-    }
-}
+// ---- all calls, and all rates
 
-fn outcome_of(call: u64, delay: u64) -> Outcome {
-    if call == 5 {
-        return Outcome::Unconfident;
-    }
-    Outcome::Candidate {
-        delay: Samples(delay),
-        interior: call == 6,
-    }
-}
-
-// The call of a record.
-fn called(t: Tracker, bytes: &[u8], at: usize) -> Cycled
-    requires { at + 64 ≤ length bytes.now }
-{
-    let call = vectors::number(bytes, at, 1);
-    if call == 1 {
-        let made = Tracker::new(vectors::number32(bytes, at + 4));
-        let tracker = made.tracker;
-        let answer = made.answer;
-        return Cycled {
-            tracker,
-            verdict: no_verdict(answer),
-        };
-    }
-    if call == 2 {
-        return Cycled {
-            tracker: stored(bytes, at),
-            verdict: Verdict::Refused(0),
-        };
-    }
-    if call == 8 {
-        let seamed = t.on_discontinuity();
-        let tracker = seamed.tracker;
-        let answer = seamed.answer;
-        return Cycled {
-            tracker,
-            verdict: no_verdict(answer),
-        };
-    }
-    let alignment = Samples(vectors::number(bytes, at + 8, 8));
-    t.on_cycle(
-        alignment,
-        outcome_of(call, vectors::number(bytes, at + 16, 8)),
-    )
-}
-
-fn is_cycle(call: u64) -> bool {
-    if call < 5 {
-        return false;
-    }
-    call <= 7
-}
-
-fn same_answer(c: Cycled, bytes: &[u8], at: usize) -> bool
-    requires { at + 64 ≤ length bytes.now }
-{
-    let tracker = c.tracker;
-    let verdict = c.verdict;
-    if !same_verdict(verdict, bytes, at) {
-        return false;
-    }
-    same_tracker(tracker, bytes, at)
-}
-
-fn try_call(run: Run, bytes: &[u8], at: usize) -> Run
-    requires { at + 64 ≤ length bytes.now }
-{
-    let before = run.tracker;
-    let tally = run.tally;
-    let answer = called(before, bytes, at);
-    let cycle = is_cycle(vectors::number(bytes, at, 1));
-    let same = same_answer(answer, bytes, at);
-    let tracker = answer.tracker;
-    Run {
-        tracker,
-        tally: tally.saw(cycle, same),
-    }
-}
-
-fn try_block(first: Run, block: &[u8]) -> Run {
-    let mut run = first;
-    let mut left = block.len() / 64;
-    let mut at = 0;
-    while 0 < left {
-        left = left - 1;
-        run = try_call(run, block, at);
-        at = at + 64;
-    }
-    run
-}
-
-fn next_block(from: &File, run: Run) -> Step {
-    let mut buf = rooms::large();
-    let n = rooms::fill(Some(from), &mut buf);
-    let next = try_block(run, &buf[..n]);
-    Step {
-        run: next,
-        more: 0 < n,
-    }
-}
-
-// A file of at most 64 blocks.
-fn try_blocks(from: &File, out: Stdout) -> Tally {
-    let made = Tracker::new(8000);
-    let tracker = made.tracker;
-    let mut run = Run {
-        tracker,
-        tally: Tally::new(out),
-    };
-    let mut left: u32 = 64;
-    while 0 < left {
-        left = left - 1;
-        let step = next_block(from, run);
-        let next = step.run;
-        run = next;
-        if !step.more {
-            return run.tally;
-        }
-    }
-    run.tally
-}
-
-fn same_bands(b: Bands, bytes: &[u8], at: usize) -> bool
-    requires { at + 24 ≤ length bytes.now }
-{
-    if b.late != vectors::number(bytes, at + 4, 4) {
-        return false;
-    }
-    if b.early != vectors::number(bytes, at + 8, 4) {
-        return false;
-    }
-    if b.agree != vectors::number(bytes, at + 12, 4) {
-        return false;
-    }
-    if b.apart != vectors::number(bytes, at + 16, 4) {
-        return false;
-    }
-    b.lead == vectors::number(bytes, at + 20, 4)
-}
-
-fn try_rate(tally: Tally, bytes: &[u8], at: usize) -> Tally
-    requires { at + 24 ≤ length bytes.now }
-{
-    let made = Tracker::new(vectors::number32(bytes, at));
-    let tracker = made.tracker;
-    let bands = tracker.bands;
-    tally.saw(true, same_bands(bands, bytes, at))
-}
-
-fn try_rates(out: Stdout, block: &[u8]) -> Tally {
+// A file of at most 65,536 calls.
+fn try_calls(from: &File, out: Stdout) -> Tally {
+    let mut tracker = Tracker::new(8000).tracker;
     let mut tally = Tally::new(out);
-    let mut left = block.len() / 24;
-    let mut at = 0;
-    while 0 < left {
-        left = left - 1;
-        tally = try_rate(tally, block, at);
-        at = at + 24;
+    for record in Records::of(Some(from), 65536) {
+        let after = called(tracker, call_of(&record));
+        tracker = after.tracker;
+        let same = same_verdict(after.verdict, &record) && same_tracker(tracker, &record);
+        tally = tally.saw(is_cycle(&record), same);
     }
     tally
 }
 
-// A file of one block.
-fn try_bands(from: &File, out: Stdout) -> Tally {
-    let mut buf = rooms::large();
-    let n = rooms::fill(Some(from), &mut buf);
-    try_rates(out, &buf[..n])
+fn bands_of(record: &RateRecord) -> Bands {
+    Bands {
+        late: vectors::number(record, 4, 4),
+        early: vectors::number(record, 8, 4),
+        agree: vectors::number(record, 12, 4),
+        apart: vectors::number(record, 16, 4),
+        lead: vectors::number(record, 20, 4),
+    }
+}
+
+// A file of at most 2,730 rates.
+fn try_rates(from: &File, out: Stdout) -> Tally {
+    let mut tally = Tally::new(out);
+    for record in Records::of(Some(from), 2730) {
+        let made = Tracker::new(vectors::number32(&record, 0));
+        tally = tally.saw(true, made.tracker.bands == bands_of(&record));
+    }
+    tally
 }
 
 fn main(rt: HostRuntime) {
     if let Some(bands) = vectors::files::open(rt, b"bands") {
-        let tally = try_bands(&bands, rt.stdout());
+        let tally = try_rates(&bands, rt.stdout());
         tally.report(b"bands of rates");
     }
     if let Some(cycles) = vectors::files::open(rt, b"cycles") {
-        let tally = try_blocks(&cycles, rt.stdout());
+        let tally = try_calls(&cycles, rt.stdout());
         tally.report_main(b"calls", b"cycles");
     }
 }
