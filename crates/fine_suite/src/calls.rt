@@ -1,10 +1,11 @@
 // The calls of records.
-use crate::records::Call;
+use crate::host::Host;
+use crate::records::{Call, Kind};
 use answers::Change;
 use fine::{Changed, Fine, Frames, Scans};
 use fine_gate::{GateAnswer, RescanAnswer, Taking};
 use units::Samples;
-use vectors::buffers;
+use vectors::buffers::{first, first_mut};
 
 // The state after a call, and the answer as a record has it.
 #[derive(Clone, Copy)]
@@ -19,71 +20,29 @@ pub const REFUSED: u64 = 99;
 // ---- a making, a restart, a relocation, a reset, and counts that a record makes up
 
 fn changed(c: Changed) -> Done {
-    let fine = c.fine;
-    let answer = c.answer;
-    match answer {
-        Change::Refused(_) => Done {
-            fine,
-            answer: REFUSED,
-        },
-        Change::Done => Done { fine, answer: 0 },
-    }
-}
-
-fn counted(frames: Frames, call: Call) -> Frames {
-    Frames {
-        len: frames.len,
-        retained: frames.retained,
-        taken: call.count,
-        skipped: (call.number % 0x1_0000_0000) as u32,
-    }
-}
-
-fn scanned(scans: Scans, count: u64) -> Scans {
-    let peak_at = scans.peak_at;
-    let origin = scans.origin;
-    Scans {
-        count,
-        ratio: scans.ratio,
-        peak_at,
-        origin,
+    let answer = match c.answer {
+        Change::Refused(_) => REFUSED,
+        Change::Done => 0,
+    };
+    Done {
+        fine: c.fine,
+        answer,
     }
 }
 
 fn made_up(fine: Fine, call: Call) -> Fine {
-    let lengths = fine.lengths;
-    let origin = fine.origin;
-    let frames = fine.frames;
-    let scans = fine.scans;
     Fine {
-        lengths,
-        origin,
-        frames: counted(frames, call),
-        scans: scanned(scans, call.place),
+        frames: Frames {
+            taken: call.count,
+            skipped: (call.number % 0x1_0000_0000) as u32,
+            ..fine.frames
+        },
+        scans: Scans {
+            count: call.place,
+            ..fine.scans
+        },
+        ..fine
     }
-}
-
-// A call that is lent no buffer.
-fn change(fine: Fine, call: Call) -> Done {
-    if call.kind == 1 {
-        return changed(Fine::new(call.count));
-    }
-    if call.kind == 5 {
-        return changed(fine.restart());
-    }
-    if call.kind == 6 {
-        return changed(fine.relocate(Samples(call.number)));
-    }
-    if call.kind == 7 {
-        return changed(fine.reset());
-    }
-    if call.kind == 15 {
-        return Done {
-            fine: made_up(fine, call),
-            answer: 0,
-        };
-    }
-    Done { fine, answer: 0 }
 }
 
 // ---- near samples
@@ -98,39 +57,25 @@ fn taking_number(answer: Taking) -> u64 {
 
 fn push_near(fine: Fine, frame: &mut [f32], sample: f32) -> Done {
     let took = fine_gate::push_near(fine, frame, sample);
-    let next = took.fine;
-    let answer = took.answer;
     Done {
-        fine: next,
-        answer: taking_number(answer),
+        fine: took.fine,
+        answer: taking_number(took.answer),
     }
 }
 
 // A run of near samples; its answer is that of the last.
 fn push_run(fine: Fine, frame: &mut [f32], call: Call) -> Done {
-    let signal = call.signal;
     let mut done = Done { fine, answer: 0 };
-    let mut i: u64 = 0;
-    while i < call.count as u64 {
-        let before = done.fine;
-        let sample = signal.at(std::num::wrapping_add_u64(call.place, i));
-        done = push_near(before, &mut *frame, sample);
-        i += 1;
+    for i in 0..call.count as u64 {
+        let sample = call.signal.at(call.place.wrapping_add(i));
+        done = push_near(done.fine, &mut *frame, sample);
     }
     done
 }
 
-fn push(fine: Fine, frame: &mut [f32], call: Call) -> Done {
-    if call.kind == 2 {
-        return push_run(fine, frame, call);
-    }
+fn push_one(fine: Fine, frame: &mut [f32], call: Call) -> Done {
     let sample = floats::bits::float32((call.number % 0x1_0000_0000) as u32);
     push_near(fine, frame, sample)
-}
-
-fn push_part(fine: Fine, near: &mut [f32], call: Call) -> Done {
-    let n = buffers::at_most(fine.lengths.frame, near.len());
-    push(fine, &mut near[..n], call)
 }
 
 // ---- the gate on the near frame and on the retained one
@@ -155,66 +100,51 @@ fn rescan_number(answer: RescanAnswer) -> u64 {
     }
 }
 
-fn gate(fine: Fine, frame: &[f32], retained: &mut [f32], window: &[f32], call: Call) -> Done {
+fn gate(fine: Fine, host: &mut Host, call: Call) -> Done {
     let gated = fine_gate::gate(
         fine,
-        frame,
-        retained,
-        window,
+        first(&host.near, fine.lengths.frame),
+        first_mut(&mut host.retained, fine.lengths.frame),
+        first(&host.far, fine.lengths.transform),
         call.count as u64,
         call.number,
     );
-    let next = gated.fine;
-    let answer = gated.answer;
     Done {
-        fine: next,
-        answer: gate_number(answer),
+        fine: gated.fine,
+        answer: gate_number(gated.answer),
     }
 }
 
-fn gate_part(fine: Fine, near: &[f32], retained: &mut [f32], far: &[f32], call: Call) -> Done {
-    let frame = buffers::first(near, fine.lengths.frame);
-    let window = buffers::first(far, fine.lengths.transform);
-    let n = buffers::at_most(fine.lengths.frame, retained.len());
-    gate(fine, frame, &mut retained[..n], window, call)
-}
-
-fn rescan(fine: Fine, retained: &[f32], far: &[f32], call: Call) -> Done {
-    let frame = buffers::first(retained, fine.lengths.frame);
-    let window = buffers::first(far, fine.lengths.transform);
-    let scanned = fine_gate::rescan(fine, frame, window, call.count as u64, call.number);
-    let next = scanned.fine;
-    let answer = scanned.answer;
+fn rescan(fine: Fine, host: &Host, call: Call) -> Done {
+    let scanned = fine_gate::rescan(
+        fine,
+        first(&host.retained, fine.lengths.frame),
+        first(&host.far, fine.lengths.transform),
+        call.count as u64,
+        call.number,
+    );
     Done {
-        fine: next,
-        answer: rescan_number(answer),
+        fine: scanned.fine,
+        answer: rescan_number(scanned.answer),
     }
 }
 
-// A call that is lent the near frame at most.
-fn near_call(fine: Fine, near: &mut [f32], call: Call) -> Done {
-    if call.kind == 2 {
-        return push_part(fine, near, call);
-    }
-    if call.kind == 16 {
-        return push_part(fine, near, call);
-    }
-    change(fine, call)
-}
+// ---- the call of a record, up to the peak rule
 
-// The call of a record up to the peak rule.
-pub fn called(
-    fine: Fine,
-    near: &mut [f32; 65536],
-    retained: &mut [f32; 65536],
-    far: &[f32; 65536],
-    call: Call,
-) -> Done {
-    if call.kind == 3 {
-        return gate_part(fine, near, retained, far, call);
+pub fn called(fine: Fine, host: &mut Host, call: Call) -> Done {
+    match call.kind {
+        Kind::New => changed(Fine::new(call.count)),
+        Kind::PushRun => push_run(fine, first_mut(&mut host.near, fine.lengths.frame), call),
+        Kind::PushOne => push_one(fine, first_mut(&mut host.near, fine.lengths.frame), call),
+        Kind::Gate => gate(fine, host, call),
+        Kind::Rescan => rescan(fine, host, call),
+        Kind::Restart => changed(fine.restart()),
+        Kind::Relocate => changed(fine.relocate(Samples(call.number))),
+        Kind::Reset => changed(fine.reset()),
+        Kind::Counts => Done {
+            fine: made_up(fine, call),
+            answer: 0,
+        },
+        _ => Done { fine, answer: 0 },
     }
-    if call.kind == 4 {
-        return rescan(fine, retained, far, call);
-    }
-    near_call(fine, near, call)
 }

@@ -1,114 +1,60 @@
 // Whether the fine stage and its buffers stand as a record says.
-ghost use Rattle.std.specs.Prelude.{◌≤◌, length};
-
+use crate::host::Host;
 use crate::peak::Searched;
 use crate::records;
+use crate::records::Record;
 use fine::{Fine, Frames, Lengths, Positions, Scans};
-use fine_peak::Lock;
-use vectors::{buffers, patterns};
+use floats::bits;
+use vectors::buffers::hash_first;
+use vectors::{number, number32};
 
-fn same_lengths(lengths: Lengths, bytes: &[u8]) -> bool
-    requires { 136 ≤ length bytes.now }
-{
-    if lengths.frame != vectors::number(bytes, 120, 4) {
-        return false;
-    }
-    lengths.transform == vectors::number(bytes, 124, 4)
+fn same_lengths(lengths: Lengths, record: &Record) -> bool {
+    lengths.frame == number(record, 120, 4) && lengths.transform == number(record, 124, 4)
 }
 
-fn same_frames(frames: Frames, bytes: &[u8]) -> bool
-    requires { 136 ≤ length bytes.now }
-{
-    if frames.len != vectors::number(bytes, 44, 4) {
-        return false;
-    }
-    if frames.taken != vectors::number32(bytes, 56) {
-        return false;
-    }
-    if frames.skipped != vectors::number32(bytes, 60) {
-        return false;
-    }
-    frames.retained == records::flagged(bytes, 1)
+fn same_frames(frames: Frames, record: &Record) -> bool {
+    frames.len == number(record, 44, 4)
+        && frames.taken == number32(record, 56)
+        && frames.skipped == number32(record, 60)
+        && frames.retained == records::flagged(record, 1)
 }
 
 fn same_positions(at: Positions, first: u64, last: u64) -> bool {
     at.first == first && at.last == last
 }
 
-fn same_position(p: Option<Positions>, there: bool, first: u64, last: u64) -> bool {
-    match p {
-        None => !there && first == 0 && last == 0,
-        Some(at) => there && same_positions(at, first, last),
-    }
+// A record has 0 where no scan is recorded.
+fn same_scans(scans: Scans, record: &Record) -> bool {
+    let peak_at = scans.peak_at.unwrap_or(Positions { first: 0, last: 0 });
+    bits::pattern64(scans.ratio) == number(record, 64, 8)
+        && scans.origin.0 == number(record, 72, 8)
+        && scans.count == number(record, 88, 8)
+        && scans.peak_at.is_some() == records::flagged(record, 2)
+        && same_positions(peak_at, number(record, 80, 4), number(record, 128, 4))
 }
 
-fn same_scans(scans: Scans, bytes: &[u8]) -> bool
-    requires { 136 ≤ length bytes.now }
-{
-    let peak_at = scans.peak_at;
-    if floats::bits::pattern64(scans.ratio) != vectors::number(bytes, 64, 8) {
-        return false;
-    }
-    if scans.origin.0 != vectors::number(bytes, 72, 8) {
-        return false;
-    }
-    if scans.count != vectors::number(bytes, 88, 8) {
-        return false;
-    }
-    same_position(
-        peak_at,
-        records::flagged(bytes, 2),
-        vectors::number(bytes, 80, 4),
-        vectors::number(bytes, 128, 4),
-    )
+fn same_state(fine: Fine, record: &Record) -> bool {
+    fine.origin.0 == number(record, 48, 8)
+        && same_lengths(fine.lengths, record)
+        && same_frames(fine.frames, record)
+        && same_scans(fine.scans, record)
 }
 
-fn same_state(fine: Fine, bytes: &[u8]) -> bool
-    requires { 136 ≤ length bytes.now }
-{
-    let lengths = fine.lengths;
-    let frames = fine.frames;
-    let scans = fine.scans;
-    if fine.origin.0 != vectors::number(bytes, 48, 8) {
-        return false;
-    }
-    if !same_lengths(lengths, bytes) {
-        return false;
-    }
-    if !same_frames(frames, bytes) {
-        return false;
-    }
-    same_scans(scans, bytes)
+// A record has 0 where there is no lock.
+fn same_lock(done: Searched, record: &Record) -> bool {
+    let (delay, ratio) = match done.lock {
+        Some(lock) => (lock.delay.0, bits::pattern64(lock.ratio)),
+        None => (0, 0),
+    };
+    done.lock.is_some() == records::flagged(record, 4)
+        && delay == number(record, 96, 8)
+        && ratio == number(record, 104, 8)
 }
 
-fn same_lock(lock: Lock, bytes: &[u8]) -> bool
-    requires { 136 ≤ length bytes.now }
-{
-    let at = lock.peak_at;
-    if !same_positions(
-        at,
-        vectors::number(bytes, 84, 4),
-        vectors::number(bytes, 132, 4),
-    ) {
-        return false;
-    }
-    if lock.delay.0 != vectors::number(bytes, 96, 8) {
-        return false;
-    }
-    floats::bits::pattern64(lock.ratio) == vectors::number(bytes, 104, 8)
-}
-
-fn same_answer(done: Searched, bytes: &[u8]) -> bool
-    requires { 136 ≤ length bytes.now }
-{
-    let lock = done.lock;
-    if done.answer != vectors::number(bytes, 1, 1) {
-        return false;
-    }
-    if done.locked != records::flagged(bytes, 4) {
-        return false;
-    }
-    same_lock(lock, bytes)
+fn same_answer(done: Searched, record: &Record) -> bool {
+    done.answer == u64::from(record[1])
+        && same_lock(done, record)
+        && same_positions(done.peak_at, number(record, 84, 4), number(record, 132, 4))
 }
 
 // The hash of no entry stands for a frame that is not retained.
@@ -120,29 +66,13 @@ fn retained_len(fine: Fine) -> u64 {
     }
 }
 
-fn same_buffers(fine: Fine, near: &[f32], retained: &[f32], bytes: &[u8]) -> bool
-    requires { 136 ≤ length bytes.now }
-{
-    let frame = buffers::first(near, fine.frames.len);
-    if patterns::hash32(frame) != vectors::number(bytes, 112, 4) {
-        return false;
-    }
-    let kept = buffers::first(retained, retained_len(fine));
-    patterns::hash32(kept) == vectors::number(bytes, 116, 4)
+fn same_buffers(fine: Fine, host: &Host, record: &Record) -> bool {
+    hash_first(&host.near, fine.frames.len) == number(record, 112, 4)
+        && hash_first(&host.retained, retained_len(fine)) == number(record, 116, 4)
 }
 
-pub fn same(
-    done: Searched,
-    near: &[f32; 65536],
-    retained: &[f32; 65536],
-    bytes: &[u8; 136],
-) -> bool {
-    let fine = done.fine;
-    if !same_answer(done, bytes) {
-        return false;
-    }
-    if !same_state(fine, bytes) {
-        return false;
-    }
-    same_buffers(fine, near, retained, bytes)
+pub fn same(done: Searched, host: &Host, record: &Record) -> bool {
+    same_answer(done, record)
+        && same_state(done.fine, record)
+        && same_buffers(done.fine, host, record)
 }

@@ -1,24 +1,40 @@
-// The far window and the array of heights that the host holds, as records write them.
-use crate::records::Call;
-use vectors::buffers;
+// What the host holds: the near frame under way and the retained one, and, as records write them, the far window and the array of heights.
+use crate::records::{Call, Kind};
+use vectors::buffers::store;
 
-// Call `whole` fills the buffer, and call `entry` writes one entry of it. A new stage finds it all 0.
-fn write_one(out: &mut [f32], call: Call, whole: u64, entry: u64) {
-    let signal = call.signal;
-    if call.kind == 1 {
-        folds::clear32(out);
-        return;
-    }
-    if call.kind == whole {
-        signal.fill(out, call.place);
-        return;
-    }
-    if call.kind == entry {
-        buffers::store32(out, call.count, call.number);
-    }
+// Long enough for the longest span.
+#[derive(Drop)]
+pub struct Host {
+    pub near: [f32; 65536],
+    pub retained: [f32; 65536],
+    pub far: [f32; 65536],
+    pub array: [f32; 65536],
 }
 
-pub fn write(far: &mut [f32; 65536], array: &mut [f32; 65536], call: Call) {
-    write_one(far, call, 11, 12);
-    write_one(array, call, 13, 14);
+impl Host {
+    pub fn blank() -> Host {
+        Host {
+            near: [0.0; 65536],
+            retained: [0.0; 65536],
+            far: [0.0; 65536],
+            array: [0.0; 65536],
+        }
+    }
+
+    // A new stage finds the far window and the array all 0.
+    fn clear(&mut self) {
+        self.far.fill(0.0);
+        self.array.fill(0.0);
+    }
+
+    pub fn write(&mut self, call: Call) {
+        match call.kind {
+            Kind::New => self.clear(),
+            Kind::Far => call.signal.fill(&mut self.far, call.place),
+            Kind::FarEntry => store(&mut self.far, call.count, call.number),
+            Kind::Array => call.signal.fill(&mut self.array, call.place),
+            Kind::ArrayEntry => store(&mut self.array, call.count, call.number),
+            _ => {}
+        }
+    }
 }

@@ -1,70 +1,59 @@
 // The peak rule, which a frame that was taken as a later one goes on to.
 use crate::calls;
 use crate::calls::Done;
-use crate::records::Call;
+use crate::host::Host;
+use crate::records::{Call, Kind};
 use fine::{Fine, Positions};
 use fine_peak::{Lock, PeakAnswer};
 use std::fs::File;
-use units::Samples;
 use vectors::buffers;
 
-// The state and the answer after the peak rule, and the lock that it gave, if it did. Where it gave none, the lock holds only where the peak stands.
+// The state and the answer after the peak rule, where the peak stands (0, where the call did not come to it), and the lock that it gave, if it did.
 #[derive(Clone, Copy)]
 pub struct Searched {
     pub fine: Fine,
     pub answer: u64,
-    pub locked: bool,
-    pub lock: Lock,
+    pub peak_at: Positions,
+    pub lock: Option<Lock>,
 }
 
-// A record has 0 for each value that there is not.
-fn no_lock(fine: Fine, answer: u64, at: Positions) -> Searched {
+const NOWHERE: Positions = Positions { first: 0, last: 0 };
+
+fn no_lock(fine: Fine, answer: u64, peak_at: Positions) -> Searched {
     Searched {
         fine,
         answer,
-        locked: false,
-        lock: Lock {
-            delay: Samples(0),
-            peak_at: at,
-            ratio: 0.0,
-        },
+        peak_at,
+        lock: None,
     }
-}
-
-fn nowhere() -> Positions {
-    Positions { first: 0, last: 0 }
 }
 
 fn search(fine: Fine, array: &[f32], answer: u64) -> Searched {
     let found = fine_peak::peak(fine, array);
-    let next = found.fine;
-    let said = found.answer;
-    match said {
-        PeakAnswer::Refused(_) => no_lock(next, calls::REFUSED, nowhere()),
-        PeakAnswer::NoCandidate(at) => no_lock(next, answer, at),
+    match found.answer {
+        PeakAnswer::Refused(_) => no_lock(found.fine, calls::REFUSED, NOWHERE),
+        PeakAnswer::NoCandidate(at) => no_lock(found.fine, answer, at),
         PeakAnswer::Candidate(lock) => Searched {
-            fine: next,
+            fine: found.fine,
             answer,
-            locked: true,
-            lock,
+            peak_at: lock.peak_at,
+            lock: Some(lock),
         },
     }
 }
 
 // The next stored array becomes the host's.
 fn read_part(arrays: Option<&File>, array: &mut [f32], span: u32) {
-    let n = buffers::at_most(span as u64 + 1, array.len());
-    buffers::read32(arrays, &mut array[..n]);
+    buffers::read(arrays, buffers::first_mut(array, span as u64 + 1));
 }
 
-pub fn after(done: Done, arrays: Option<&File>, array: &mut [f32; 65536], call: Call) -> Searched {
-    let fine = done.fine;
-    if call.kind == 8 {
-        return search(fine, array, 0);
+pub fn after(done: Done, arrays: Option<&File>, host: &mut Host, call: Call) -> Searched {
+    if call.kind == Kind::Peak {
+        return search(done.fine, &host.array, 0);
     }
     if done.answer != 4 {
-        return no_lock(fine, done.answer, nowhere());
+        return no_lock(done.fine, done.answer, NOWHERE);
     }
-    read_part(arrays, &mut *array, fine.lengths.span);
-    search(fine, array, 4)
+    read_part(arrays, &mut host.array, done.fine.lengths.span);
+    search(done.fine, &host.array, 4)
 }

@@ -1,6 +1,0 @@
--- `fine_suite::calls::gate_part` is safe: the part that it lends is no longer than the slice.
-use Rattle.std.proofs.Common.{sym, length-take-le}
-use Rattle.fine_suite.proofs.calls.gate_part.Goals as goal
-
-pub slice_bounds-gate-end-2 : goal.slice_bounds-gate-end-2
-slice_bounds-gate-end-2 c = sym (length-take-le _ _ c.at_most-n.ensures)

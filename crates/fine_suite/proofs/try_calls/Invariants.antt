@@ -1,8 +1,0 @@
--- `fine_suite::try_calls` is safe and ends.
-use Rattle.fine_suite.proofs.try_calls.Given as goal
-
-abbrev pub invariant-loop-left : goal.invariant-loop-left
-invariant-loop-left l = Unit {0}
-
-abbrev pub decreases-loop-left : goal.decreases-loop-left
-decreases-loop-left l = l.left
