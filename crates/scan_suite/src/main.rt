@@ -6,53 +6,37 @@ mod calls; // the calls of the scan
 
 use scan::Scan;
 use scan_vectors::buffers::Buffers;
-use scan_vectors::records::Record;
-use scan_vectors::{buffers, compare, records, whole};
+use scan_vectors::records::{Kind, Record};
+use scan_vectors::{compare, records, whole};
 use std::fs::File;
 use std::io::Stdout;
 use vectors::Tally;
+use vectors::files::Records;
 
-#[derive(Clone, Copy)]
-struct Run {
-    scan: Scan,
-    buffers: Buffers,
+// The call of a record, made, and counted.
+fn try_call(
     tally: Tally,
-}
-
-fn try_call(full: Option<&File>, run: Run, record: &Record) -> Run {
-    let before = run.scan;
-    let lent = run.buffers;
-    let tally = run.tally;
-    let done = calls::called(lent, before, record);
-    let scan = done.scan;
-    let buffers = done.buffers;
-    let whole = whole::same(full, scan, buffers, record);
-    let same = whole::both(whole, compare::same(scan, buffers, done.answer, record));
-    Run {
-        scan,
-        buffers,
-        tally: tally.saw(records::kind_of(record) == 4, same),
-    }
+    scan: &mut Scan,
+    lent: &mut Buffers,
+    full: Option<&File>,
+    record: &Record,
+) -> Tally {
+    let done = calls::called(*scan, lent, record);
+    *scan = done.scan;
+    let same = whole::same(full, done.scan, lent, record)
+        & compare::same(done.scan, lent, done.answer, record);
+    tally.saw(records::kind_of(record) == Kind::Score, same)
 }
 
 // A file of at most 65,535 calls.
-fn try_calls(calls: Option<&File>, full: Option<&File>, out: Stdout, record: &mut Record) -> Tally {
-    let mut run = Run {
-        scan: scan_calls::parts::new_scan(8000, 1),
-        buffers: buffers::all_blank(),
-        tally: Tally::new(out),
-    };
-    let mut turns = vectors::files::next(calls, &mut *record, 65536);
-    while 0 < turns {
-        run = try_call(full, run, &*record);
-        turns = vectors::files::next(calls, &mut *record, turns);
-    }
-    run.tally
-}
-
 fn try_files(calls: Option<&File>, full: Option<&File>, out: Stdout) -> Tally {
-    let mut record = [0u8; 168];
-    try_calls(calls, full, out, &mut record)
+    let mut scan = scan_calls::parts::new_scan(8000, 1);
+    let mut lent = Buffers::blank();
+    let mut tally = Tally::new(out);
+    for record in Records::of(calls, 65535) {
+        tally = try_call(tally, &mut scan, &mut lent, full, &record);
+    }
+    tally
 }
 
 fn main(rt: HostRuntime) {

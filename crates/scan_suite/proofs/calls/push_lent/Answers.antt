@@ -1,6 +1,0 @@
--- `scan_suite::calls::push_lent` is safe: the part that it lends is no longer than its buffer.
-use Rattle.std.proofs.Common.{sym, length-take-le}
-use Rattle.scan_suite.proofs.calls.push_lent.Goals as goal
-
-pub slice_bounds-push_run-end-2 : goal.slice_bounds-push_run-end-2
-slice_bounds-push_run-end-2 c = sym (length-take-le _ _ c.at_most-frame.ensures)

@@ -1,8 +1,0 @@
--- `scan_suite::try_calls` is safe and ends.
-use Rattle.scan_suite.proofs.try_calls.Given as goal
-
-abbrev pub invariant-loop-turns : goal.invariant-loop-turns
-invariant-loop-turns l = Unit {0}
-
-abbrev pub decreases-loop-turns : goal.decreases-loop-turns
-decreases-loop-turns l = l.turns
