@@ -60,9 +60,8 @@ fn pattern_of(n: u16) -> u32 {
 
 // Whether a number becomes its pattern, and that the number again.
 fn goes_both_ways(n: u16) -> bool {
-    let bytes = [(n % 256) as u8, (n / 256) as u8];
     let mut out = [BEFORE; 4];
-    match recording_store::store(Direction::ToFloats, &bytes, 1, &mut out) {
+    match recording_store::store(Direction::ToFloats, &n.to_le_bytes(), 1, &mut out) {
         Storing::All(_) => vectors::number32(&out, 0) == pattern_of(n) && comes_back(&out, n),
         Storing::StrangeAt(_) => false,
         Storing::NoRoom => false,
@@ -71,12 +70,7 @@ fn goes_both_ways(n: u16) -> bool {
 
 // A pattern is a number's, and is stored as that number, or it is refused.
 fn try_pattern(bits: u32, t: Tally) -> Tally {
-    let bytes = [
-        (bits % 256) as u8,
-        (bits / 256 % 256) as u8,
-        (bits / 65536 % 256) as u8,
-        (bits / 16777216) as u8,
-    ];
+    let bytes = bits.to_le_bytes();
     match recording_shorts::number(bits) {
         Some(n) => t.saw(true, pattern_of(n) == bits && comes_back(&bytes, n)),
         None => t.saw(false, is_refused(&bytes)),
@@ -86,76 +80,45 @@ fn try_pattern(bits: u32, t: Tally) -> Tally {
 // ---- all of them
 
 fn try_numbers(out: Stdout) -> Tally {
-    let mut tally = Tally::new(out);
-    let mut n: u32 = 0;
-    while n < 65536 {
-        tally = tally.saw(false, goes_both_ways((n % 65536) as u16));
-        n += 1;
-    }
-    tally
+    (0..=u16::MAX).fold(Tally::new(out), |tally, n| {
+        tally.saw(false, goes_both_ways(n))
+    })
 }
 
-// The pattern that stands so many behind another; the first stands behind the last.
-fn behind(bits: u64, steps: u64) -> u32 {
-    ((bits % 0x1_0000_0000 + steps % 0x1_0000_0000) % 0x1_0000_0000) as u32
-}
-
-// The patterns before and behind one.
-fn try_beside(bits: u64, t: Tally) -> Tally {
-    try_pattern(behind(bits, 1), try_pattern(behind(bits, 0xffff_ffff), t))
+// The patterns before and behind one; the first stands behind the last.
+fn try_beside(bits: u32, t: Tally) -> Tally {
+    try_pattern(bits.wrapping_add(1), try_pattern(bits.wrapping_sub(1), t))
 }
 
 fn try_neighbours(out: Stdout) -> Tally {
-    let mut tally = Tally::new(out);
-    let mut n: u32 = 0;
-    while n < 65536 {
-        tally = try_beside(pattern_of((n % 65536) as u16) as u64, tally);
-        n += 1;
-    }
-    tally
+    (0..=u16::MAX).fold(Tally::new(out), |tally, n| try_beside(pattern_of(n), tally))
 }
 
 // The power of two, or the infinity, with this sign and exponent's field, and the patterns before and behind it.
 fn try_power(field: u32, t: Tally) -> Tally {
-    let bits = field as u64 * 0x80_0000;
-    try_beside(bits, try_pattern(behind(bits, 0), t))
+    let bits = field.wrapping_mul(0x80_0000);
+    try_beside(bits, try_pattern(bits, t))
 }
 
 fn try_powers(out: Stdout) -> Tally {
-    let mut tally = Tally::new(out);
-    let mut field: u32 = 0;
-    while field < 512 {
-        tally = try_power(field, tally);
-        field += 1;
-    }
-    tally
+    (0..512).fold(Tally::new(out), |tally, field| try_power(field, tally))
 }
 
-fn try_strange(out: Stdout, patterns: &[u32]) -> Tally {
-    let mut tally = Tally::new(out);
-    let mut i = 0;
-    while i < patterns.len() {
-        tally = try_pattern(patterns[i], tally);
-        i += 1;
-    }
-    tally
+fn try_strange(out: Stdout) -> Tally {
+    STRANGE
+        .iter()
+        .fold(Tally::new(out), |tally, bits| try_pattern(*bits, tally))
 }
 
 // ---- the patterns themselves
 
-fn quotients(out: &mut [f32]) {
-    let mut i = 0;
-    while i < out.len() {
-        out[i] = recording_shorts::value((i % 65536) as u16);
-        i += 1;
-    }
-}
-
 fn report_hash(out: Stdout) {
     let mut all = [0.0f32; 65536];
-    quotients(&mut all);
+    for (n, x) in all.iter_mut().enumerate() {
+        *x = recording_shorts::value((n % 65536) as u16);
+    }
     told::put(out, b"the patterns of all numbers: hash ");
-    told::put_number(out, vectors::patterns::hash32(&all));
+    told::put_number(out, vectors::patterns::hash(&all));
     told::put(out, b"\n");
 }
 
@@ -164,6 +127,6 @@ fn main(rt: HostRuntime) {
     try_numbers(out).report(b"numbers both ways");
     try_neighbours(out).report_main(b"patterns beside them", b"numbers");
     try_powers(out).report_main(b"powers of two and patterns beside them", b"numbers");
-    try_strange(out, &STRANGE).report_main(b"strange patterns", b"numbers");
+    try_strange(out).report_main(b"strange patterns", b"numbers");
     report_hash(out);
 }
