@@ -2,26 +2,21 @@
 // for byte. tests/parts/README.md says how they were made. All logs stand one behind the other, each side in a file of its own.
 #![tactic(auto)]
 
-ghost use Rattle.std.specs.Prelude.{◌+◌, ◌≤◌, length};
-
 use parts_host::{Failure, Told};
 use parts_walks::inputs::Source;
-use pipes::{named, rooms};
+use pipes::named;
 use std::fs::File;
 use std::io::Stderr;
+use vectors::files::Records;
+
+// What the index says of a pair: how many bytes each log has.
+type Record = [u8; 8];
 
 // Where a pair begins in each file.
 #[derive(Clone, Copy)]
 struct Places {
     first: u64,
     second: u64,
-}
-
-fn sum(a: u64, b: u32) -> u64 {
-    if a < 0x4000_0000_0000_0000 {
-        return a + b as u64;
-    }
-    a
 }
 
 // A pair that did not come to its end is not compared in silence.
@@ -50,19 +45,16 @@ fn source(file: &File, start: u64, bytes: u32) -> Source<'_> {
     }
 }
 
-// The pair that the 8 bytes of the index from at on speak of: how many bytes each log has.
+// The pair that a record speaks of, and where the next one begins.
 fn try_pair(
     rt: HostRuntime,
     first: &File,
     second: &File,
     places: Places,
-    index: &[u8],
-    at: usize,
-) -> Places
-    requires { at + 8 ≤ length index.now }
-{
-    let mine = vectors::number32(index, at);
-    let other = vectors::number32(index, at + 4);
+    record: &Record,
+) -> Places {
+    let mine = vectors::number32(record, 0);
+    let other = vectors::number32(record, 4);
     let outcome = parts_host::run(
         source(first, places.first, mine),
         b"first",
@@ -72,29 +64,20 @@ fn try_pair(
     );
     judge(rt.stderr(), outcome);
     Places {
-        first: sum(places.first, mine),
-        second: sum(places.second, other),
+        first: places.first.saturating_add(mine as u64),
+        second: places.second.saturating_add(other as u64),
     }
 }
 
-fn try_all(rt: HostRuntime, first: &File, second: &File, index: &[u8]) {
+// An index of at most 8,192 pairs.
+fn try_all(rt: HostRuntime, first: &File, second: &File, index: &File) {
     let mut places = Places {
         first: 0,
         second: 0,
     };
-    let mut left = index.len() / 8;
-    let mut at = 0;
-    while 0 < left {
-        left = left - 1;
-        places = try_pair(rt, first, second, places, index, at);
-        at = at + 8;
+    for record in Records::of(Some(index), 8192) {
+        places = try_pair(rt, first, second, places, &record);
     }
-}
-
-fn try_index(rt: HostRuntime, first: &File, second: &File, index: &File) {
-    let mut buf = rooms::large();
-    let n = rooms::fill(Some(index), &mut buf);
-    try_all(rt, first, second, &buf[..n]);
 }
 
 // Each that is missing is named.
@@ -103,6 +86,6 @@ fn main(rt: HostRuntime) {
     let second = named::open(rt, b"parts_suite", b"second");
     let index = named::open(rt, b"parts_suite", b"index");
     if let (Some(first), Some(second), Some(index)) = (first, second, index) {
-        try_index(rt, &first, &second, &index);
+        try_all(rt, &first, &second, &index);
     }
 }

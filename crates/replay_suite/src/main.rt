@@ -2,14 +2,16 @@
 // bytes. The file `stdout` holds those of a plain comparison. tests/replay/README.md says how all were made. All recordings stand one behind the other, each side in a file of its own.
 #![tactic(auto)]
 
-ghost use Rattle.std.specs.Prelude.{◌+◌, ◌≤◌, length};
-
-use pipes::{named, rooms, told};
+use pipes::{named, told};
 use replay_close::Outcome;
 use replay_inputs::Most;
 use replay_sink::Goal;
 use std::fs::File;
 use std::io::Stderr;
+use vectors::files::Records;
+
+// What the index says of a recording: how many bytes its events, far samples, near samples and log have.
+type Record = [u8; 16];
 
 #[derive(Drop)]
 struct Files {
@@ -26,32 +28,6 @@ struct Places {
     far: u64,
     near: u64,
     log: u64,
-}
-
-fn sum(a: u64, b: u32) -> u64 {
-    if a < 0x4000_0000_0000_0000 {
-        return a + b as u64;
-    }
-    a
-}
-
-// How many bytes of each input the recording has.
-fn most(events: u32, far: u32, near: u32) -> Most {
-    Most {
-        events: events as u64,
-        far: far as u64,
-        near: near as u64,
-    }
-}
-
-// Where the next recording begins.
-fn behind(places: Places, events: u32, far: u32, near: u32, log: u32) -> Places {
-    Places {
-        events: sum(places.events, events),
-        far: sum(places.far, far),
-        near: sum(places.near, near),
-        log: sum(places.log, log),
-    }
 }
 
 // A place that cannot be gone to shows in what is read there.
@@ -101,46 +77,35 @@ fn try_log(rt: HostRuntime, files: &Files, places: Places, most: Most, log: u64)
     judge(rt.stderr(), outcome);
 }
 
-// The recording that the 16 bytes of the index from at on speak of: the bytes of its events, far samples, near samples and log.
-fn try_recording(rt: HostRuntime, files: &Files, places: Places, index: &[u8], at: usize) -> Places
-    requires { at + 16 ≤ length index.now }
-{
-    let events = vectors::number32(index, at);
-    let far = vectors::number32(index, at + 4);
-    let near = vectors::number32(index, at + 8);
-    let log = vectors::number32(index, at + 12);
-    let inputs = most(events, far, near);
-    try_log(rt, files, places, inputs, log as u64);
-    try_log(
-        rt,
-        files,
-        places,
-        inputs,
-        answers::saturating_sub(log as u64, 2),
-    );
-    behind(places, events, far, near, log)
+// The recording that a record speaks of, and where the next one begins.
+fn try_recording(rt: HostRuntime, files: &Files, places: Places, record: &Record) -> Places {
+    let most = Most {
+        events: vectors::number(record, 0, 4),
+        far: vectors::number(record, 4, 4),
+        near: vectors::number(record, 8, 4),
+    };
+    let log = vectors::number(record, 12, 4);
+    try_log(rt, files, places, most, log);
+    try_log(rt, files, places, most, log.saturating_sub(2));
+    Places {
+        events: places.events.saturating_add(most.events),
+        far: places.far.saturating_add(most.far),
+        near: places.near.saturating_add(most.near),
+        log: places.log.saturating_add(log),
+    }
 }
 
-fn try_all(rt: HostRuntime, files: &Files, index: &[u8]) {
+// An index of at most 4,096 recordings.
+fn try_all(rt: HostRuntime, files: &Files, index: &File) {
     let mut places = Places {
         events: 0,
         far: 0,
         near: 0,
         log: 0,
     };
-    let mut left = index.len() / 16;
-    let mut at = 0;
-    while 0 < left {
-        left = left - 1;
-        places = try_recording(rt, files, places, index, at);
-        at = at + 16;
+    for record in Records::of(Some(index), 4096) {
+        places = try_recording(rt, files, places, &record);
     }
-}
-
-fn try_index(rt: HostRuntime, files: &Files, index: &File) {
-    let mut buf = rooms::large();
-    let n = rooms::fill(Some(index), &mut buf);
-    try_all(rt, files, &buf[..n]);
 }
 
 // All are opened, and each that cannot be is named.
@@ -161,6 +126,6 @@ fn main(rt: HostRuntime) {
     let files = opened(rt);
     let index = named::open(rt, b"replay_suite", b"index");
     if let (Some(files), Some(index)) = (files, index) {
-        try_index(rt, &files, &index);
+        try_all(rt, &files, &index);
     }
 }
