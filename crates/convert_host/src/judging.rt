@@ -9,10 +9,9 @@ use recording::{Header, Lengths, Used};
 use recording_convert::Direction;
 use std::fs::File;
 
-// Whole: it may be converted. The next four say why not, the first two of the header. Unread: the events could not be read.
+// Why a recording may not be converted: the first two are of its header. Unread: the events could not be read.
 #[derive(Clone, Copy)]
-pub enum Judgement {
-    Whole(Header),
+pub enum Fault {
     BadHeader,
     OtherForm,
     BadEvent(u32),
@@ -110,17 +109,17 @@ fn all(header: Header, lengths: Lengths, events: &File, room: &mut [u8]) -> Judg
     j
 }
 
-fn told_of(header: Header, j: Judging) -> Judgement {
+fn told_of(header: Header, j: Judging) -> Result<Header, Fault> {
     if let Some(why) = j.side.input.failed {
-        return Judgement::Unread(why);
+        return Err(Fault::Unread(why));
     }
     if j.lacks {
-        return Judgement::BadEvent(j.number);
+        return Err(Fault::BadEvent(j.number));
     }
     if recording::all_used(header, j.used) {
-        return Judgement::Whole(header);
+        return Ok(header);
     }
-    Judgement::BadTotals
+    Err(Fault::BadTotals)
 }
 
 fn judge_events(
@@ -129,31 +128,36 @@ fn judge_events(
     lengths: Lengths,
     events: &File,
     room: &mut [u8],
-) -> Judgement
+) -> Result<Header, Fault>
     requires { length room.old ≡ 65536 }
 {
     let form = header.form;
     if recording_store::takes(direction, form) {
         return told_of(header, all(header, lengths, events, room));
     }
-    Judgement::OtherForm
+    Err(Fault::OtherForm)
 }
 
-fn judge_in(direction: Direction, events: &File, lengths: Lengths, room: &mut [u8]) -> Judgement
+fn judge_in(
+    direction: Direction,
+    events: &File,
+    lengths: Lengths,
+    room: &mut [u8],
+) -> Result<Header, Fault>
     requires { length room.old ≡ 65536 }
 {
     let head = recording_head::read(Some(events), u64::MAX, room);
     if let Some(why) = head.failed {
-        return Judgement::Unread(why);
+        return Err(Fault::Unread(why));
     }
     match recording_head::opened(head, room) {
-        None => Judgement::BadHeader,
+        None => Err(Fault::BadHeader),
         Some(header) => judge_events(direction, header, lengths, events, room),
     }
 }
 
 // Judges the recording whose events stand in an open file, from where it stands, and whose sample inputs have these lengths.
-pub fn judge(direction: Direction, events: &File, lengths: Lengths) -> Judgement {
+pub fn judge(direction: Direction, events: &File, lengths: Lengths) -> Result<Header, Fault> {
     let mut room = rooms::large();
     judge_in(direction, events, lengths, &mut room)
 }

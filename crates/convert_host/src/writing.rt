@@ -7,7 +7,7 @@ use convert_side::{Ends, Side, Stored};
 use pipes::{named, rooms};
 use recording::{Event, Form, Header, Lengths, Used};
 use recording_convert::Direction;
-use recording_store::Storing;
+use recording_store::Unstored;
 use std::fs::File;
 
 // Three open files.
@@ -177,9 +177,9 @@ fn far_done(work: Work, stored: Stored, used: Used, er: &[u8], eo: &mut [u8]) ->
     let near = work.near;
     let storing = stored.storing;
     match storing {
-        Storing::NoRoom => far_stopped(work, side, State::Changed),
-        Storing::StrangeAt(sample) => far_stopped(work, side, State::FarStrange(sample)),
-        Storing::All(_) => entered(
+        Err(Unstored::NoRoom) => far_stopped(work, side, State::Changed),
+        Err(Unstored::StrangeAt(sample)) => far_stopped(work, side, State::FarStrange(sample)),
+        Ok(_) => entered(
             work,
             convert_side::carry_entry(work.events, er, eo),
             side,
@@ -197,9 +197,9 @@ fn near_done(work: Work, stored: Stored, used: Used, er: &[u8], eo: &mut [u8]) -
     let far = work.far;
     let storing = stored.storing;
     match storing {
-        Storing::NoRoom => near_stopped(work, side, State::Changed),
-        Storing::StrangeAt(sample) => near_stopped(work, side, State::NearStrange(sample)),
-        Storing::All(_) => entered(
+        Err(Unstored::NoRoom) => near_stopped(work, side, State::Changed),
+        Err(Unstored::StrangeAt(sample)) => near_stopped(work, side, State::NearStrange(sample)),
+        Ok(_) => entered(
             work,
             convert_side::carry_entry(work.events, er, eo),
             far,

@@ -2,7 +2,7 @@
 // may be there, or over. `./convert` is its front, and sees to it that no output is an input or another output.
 #![tactic(auto)]
 
-use convert_host::judging::Judgement;
+use convert_host::judging::Fault;
 use convert_host::writing::{Files, State, Work};
 use convert_host::{judging, writing};
 use pipes::reason::Reason;
@@ -294,19 +294,19 @@ fn judged(
     to_near: &[u8],
 ) -> u64 {
     match judging::judge(direction, &from.events, lengths) {
-        Judgement::Whole(header) => written(
+        Ok(header) => written(
             rt, direction, over, header, lengths, from, events, far, near, to_events, to_far,
             to_near,
         ),
-        Judgement::BadHeader => refused(rt, Ok(()), b"refused 12: bad header\n"),
-        Judgement::OtherForm => other(rt, direction),
-        Judgement::BadEvent(number) => refused(
+        Err(Fault::BadHeader) => refused(rt, Ok(()), b"refused 12: bad header\n"),
+        Err(Fault::OtherForm) => other(rt, direction),
+        Err(Fault::BadEvent(number)) => refused(
             rt,
             tell(rt, b"refused 12: bad event ", number as u64),
             b"\n",
         ),
-        Judgement::BadTotals => refused(rt, Ok(()), b"refused 12: bad totals\n"),
-        Judgement::Unread(why) => unread(rt, events, why),
+        Err(Fault::BadTotals) => refused(rt, Ok(()), b"refused 12: bad totals\n"),
+        Err(Fault::Unread(why)) => unread(rt, events, why),
     }
 }
 

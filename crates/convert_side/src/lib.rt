@@ -11,7 +11,7 @@ use pipes::window::Window;
 use pipes::{reason, told, window};
 use recording::Form;
 use recording_convert::Direction;
-use recording_store::Storing;
+use recording_store::Unstored;
 use std::fs::File;
 
 // The first `held` bytes of a room are for the output. `good`: every write was done; `reason`: why the last was not.
@@ -39,7 +39,7 @@ pub struct Side {
 #[derive(Clone, Copy)]
 pub struct Stored {
     pub side: Side,
-    pub storing: Storing,
+    pub storing: Result<usize, Unstored>,
 }
 
 pub fn fresh(most: u64) -> Side
@@ -196,7 +196,13 @@ pub fn holds(side: Side, n: usize) -> Side
 
 // ---- the samples of an event
 
-fn store_behind(direction: Direction, side: Side, count: u32, from: &[u8], to: &mut [u8]) -> Storing
+fn store_behind(
+    direction: Direction,
+    side: Side,
+    count: u32,
+    from: &[u8],
+    to: &mut [u8],
+) -> Result<usize, Unstored>
     requires { (Fits side) × (length from.now ≡ 65536) × (length to.old ≡ 65536) }
 {
     let input = side.input;
@@ -207,14 +213,13 @@ fn store_behind(direction: Direction, side: Side, count: u32, from: &[u8], to: &
     recording_store::store(direction, &from[at..end], count, &mut to[held..])
 }
 
-fn after(side: Side, storing: Storing, need: usize) -> Stored
+fn after(side: Side, storing: Result<usize, Unstored>, need: usize) -> Stored
     requires { Fits side }
     ensures { Fits result.side }
 {
     match storing {
-        Storing::NoRoom => Stored { side, storing },
-        Storing::StrangeAt(_) => Stored { side, storing },
-        Storing::All(n) => Stored {
+        Err(_) => Stored { side, storing },
+        Ok(n) => Stored {
             side: holds(past(side, need), n),
             storing,
         },

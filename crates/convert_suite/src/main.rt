@@ -4,7 +4,7 @@
 
 use pipes::told;
 use recording_convert::Direction;
-use recording_store::Storing;
+use recording_store::Unstored;
 use std::io::Stdout;
 use vectors::Tally;
 
@@ -37,9 +37,8 @@ const BEFORE: u8 = 0x5a;
 fn comes_back(bytes: &[u8], n: u16) -> bool {
     let mut out = [BEFORE; 2];
     match recording_store::store(Direction::ToShorts, bytes, 1, &mut out) {
-        Storing::All(_) => vectors::number(&out, 0, 2) == n as u64,
-        Storing::StrangeAt(_) => false,
-        Storing::NoRoom => false,
+        Ok(_) => vectors::number(&out, 0, 2) == n as u64,
+        Err(_) => false,
     }
 }
 
@@ -47,9 +46,8 @@ fn comes_back(bytes: &[u8], n: u16) -> bool {
 fn is_refused(bytes: &[u8]) -> bool {
     let mut out = [BEFORE; 2];
     match recording_store::store(Direction::ToShorts, bytes, 1, &mut out) {
-        Storing::All(_) => false,
-        Storing::StrangeAt(before) => before == 0 && vectors::number(&out, 0, 2) == 0x5a5a,
-        Storing::NoRoom => false,
+        Err(Unstored::StrangeAt(before)) => before == 0 && vectors::number(&out, 0, 2) == 0x5a5a,
+        Err(Unstored::NoRoom) | Ok(_) => false,
     }
 }
 
@@ -62,9 +60,8 @@ fn pattern_of(n: u16) -> u32 {
 fn goes_both_ways(n: u16) -> bool {
     let mut out = [BEFORE; 4];
     match recording_store::store(Direction::ToFloats, &n.to_le_bytes(), 1, &mut out) {
-        Storing::All(_) => vectors::number32(&out, 0) == pattern_of(n) && comes_back(&out, n),
-        Storing::StrangeAt(_) => false,
-        Storing::NoRoom => false,
+        Ok(_) => vectors::number32(&out, 0) == pattern_of(n) && comes_back(&out, n),
+        Err(_) => false,
     }
 }
 

@@ -10,7 +10,7 @@ use lib.Dec.{ltb, leb}
 use lib.ListN.{length, drop, set, length-append, length-drop}
 use lib.Seq.{sets, sets-eq, take_at, drop-append-add, drop-drop}
 use borrow.Author.Tests.{lt-ltb, ltb-true, le-ltb, le-leb, lt-leb}
-use Rattle.answers.specs.Pick.{pick, both, pick_true, pick_false}
+use Rattle.answers.specs.Pick.{pick, both, pick_true, pick_false, pick_all}
 use Rattle.answers.proofs.Passed.{both_true}
 use Rattle.recording.specs.Bytes.{bytes}
 use Rattle.recording.specs.Samples.{width, bytes_of}
@@ -23,8 +23,9 @@ use Rattle.recording_convert.proofs.Numbers.{bytes_length}
 use Rattle.recording_convert.proofs.Samples.{Fine, fine_of, none_strange, stored_length}
 use Rattle.recording_store.specs.Steps.{code_of, is_fine, bits_in, code_at, found_at, field_bytes}
 use Rattle.recording_store.specs.Storing.{fits, told, storing, or_none, stored_into, header_stored, headed_into}
-use Rattle.recording_store.specs.declared.Storing.{Storing}
-use Rattle.recording_store.specs.declared.Storing.TheVariants.{NoRoom, StrangeAt, All}
+use Rattle.recording_store.specs.declared.Unstored.{Unstored}
+use Rattle.recording_store.specs.declared.Unstored.TheVariants.{NoRoom, StrangeAt}
+use Rattle.std.specs.Prelude.{Result, Ok, Err}
 
 -- ---- which samples are fine
 
@@ -37,11 +38,8 @@ strange_sample (Stored y) e = absurd (true≢false e)
 strange_sample Strange e = refl
 
 -- the loop's test
-pub goes_less : (i n : ℕ) (x : Bool) → both (ltb i n) x ≡ true → i < n
-goes_less i n x e = ltb-true i n (both_true (ltb i n) x e).0
-
-pub goes_fine : (i n : ℕ) (x : Bool) → both (ltb i n) x ≡ true → x ≡ true
-goes_fine i n x e = (both_true (ltb i n) x e).1
+pub strange_here : (i n : ℕ) (x : Bool) → x ≡ false → both (ltb i n) x ≡ false
+strange_here i n x e = pick_all (λ (t : Bool). t ≡ false) (ltb i n) x false e refl
 
 module _ (d : Direction) (s : List ℕ) where
   abbrev At : ℕ → Sample
@@ -155,17 +153,17 @@ module _ (d : Direction) (s out₀ : List ℕ) (n : ℕ) (none : first_strange d
 -- ---- what is answered
 
 module _ (d : Direction) (s : List ℕ) (n : ℕ) (out : List ℕ) where
-  abbrev Refuses : Storing → Type 0
+  abbrev Refuses : Result ℕ Unstored → Type 0
   Refuses answer = (answer ≡ storing d s n out) × (out ≡ stored_into d s n out)
 
-  unfit : fits d s n out ≡ false → Refuses NoRoom
+  unfit : fits d s n out ≡ false → Refuses (Err NoRoom)
   unfolding storing stored_into
-  unfit e = (sym (pick_false (fits d s n out) _ NoRoom e), sym (pick_false (fits d s n out) _ out e))
+  unfit e = (sym (pick_false (fits d s n out) _ (Err NoRoom) e), sym (pick_false (fits d s n out) _ out e))
 
-  pub few_bytes : length s < bytes_of (form_from d) n → Refuses NoRoom
+  pub few_bytes : length s < bytes_of (form_from d) n → Refuses (Err NoRoom)
   few_bytes h = unfit (pick_false _ _ false (lt-leb (bytes_of (form_from d) n) (length s) h))
 
-  pub no_room : length out < bytes_of (form_to d) n → Refuses NoRoom
+  pub no_room : length out < bytes_of (form_to d) n → Refuses (Err NoRoom)
   unfolding pick
   no_room h = unfit (go (leb (bytes_of (form_from d) n) (length s)))
     where
@@ -183,16 +181,16 @@ module _ (d : Direction) (s : List ℕ) (n : ℕ) (out : List ℕ) where
     fit : fits d s n out ≡ true
     fit = pick_true (leb (bytes_of (form_from d) n) (length s)) _ false (le-leb (bytes_of (form_from d) n) (length s) there) ∙ le-leb (bytes_of (form_to d) n) (length out) room
 
-    pub strange_told : (r : ℕ) → r < n → first_strange d s 0 n ≡ found_at n r → Refuses (StrangeAt r)
+    pub strange_told : (r : ℕ) → r < n → first_strange d s 0 n ≡ found_at n r → Refuses (Err (StrangeAt r))
     unfolding storing stored_into
     strange_told r h e =
         let found : first_strange d s 0 n ≡ Behind r = e ∙ pick_true (ltb r n) (Behind r) Nowhere (lt-ltb r n h) in
-        (sym (pick_true (fits d s n out) _ NoRoom fit ∙ ap (told d n) found), sym (pick_true (fits d s n out) _ out fit ∙ ap (or_none d s n out) found))
+        (sym (pick_true (fits d s n out) _ (Err NoRoom) fit ∙ ap (told d n) found), sym (pick_true (fits d s n out) _ out fit ∙ ap (or_none d s n out) found))
 
-    pub all_told : first_strange d s 0 n ≡ Nowhere → (out' : List ℕ) → out' ≡ stored d s n ++ drop (bytes_of (form_to d) n) out → (All (bytes_of (form_to d) n) ≡ storing d s n out) × (out' ≡ stored_into d s n out)
+    pub all_told : first_strange d s 0 n ≡ Nowhere → (out' : List ℕ) → out' ≡ stored d s n ++ drop (bytes_of (form_to d) n) out → (Ok (bytes_of (form_to d) n) ≡ storing d s n out) × (out' ≡ stored_into d s n out)
     unfolding storing stored_into
     all_told none out' e =
-        (sym (pick_true (fits d s n out) _ NoRoom fit ∙ ap (told d n) none), e ∙ sym (pick_true (fits d s n out) _ out fit ∙ ap (or_none d s n out) none))
+        (sym (pick_true (fits d s n out) _ (Err NoRoom) fit ∙ ap (told d n) none), e ∙ sym (pick_true (fits d s n out) _ out fit ∙ ap (or_none d s n out) none))
 
 -- ---- the header
 

@@ -13,44 +13,36 @@ ghost use Rattle.recording_store.specs.Steps.{is_fine, bits_in, code_at, found_a
 use recording::{Form, Header};
 use recording_convert::Direction;
 
-// What became of an event's samples. NoRoom: not all their bytes are there, or there is no room for them. StrangeAt: one of them is no sample of the other kind, and so many stand
-// before it. All: they are written, in so many bytes.
-#[derive(Clone, Copy)]
-pub enum Storing {
+// Why no sample of an event was written. NoRoom: not all their bytes are there, or there is no room for them. StrangeAt: one of them is no sample of the other kind, and so many stand
+// before it.
+#[derive(Clone, Copy, Debug)]
+pub enum Unstored {
     NoRoom,
     StrangeAt(u32),
-    All(usize),
-}
-
-// A sample of the other kind, if it is one.
-#[derive(Clone, Copy)]
-enum Code {
-    Bits(u32),
-    Odd,
 }
 
 // ---- one sample
 
-fn float_at(s: &[u8], i: usize) -> Code
+fn float_at(s: &[u8], i: usize) -> Option<u32>
     requires { bytes_of Form.Shorts (i + 1) ≤ length s.now }
     ensures { result ≡ code_at Direction.ToFloats s.now i }
 {
-    Code::Bits(floats::bits::pattern32(recording_shorts::value(recording::u16_at(s, 2 * i))))
+    Some(floats::bits::pattern32(recording_shorts::value(recording::u16_at(s, 2 * i))))
 }
 
-fn short_at(s: &[u8], i: usize) -> Code
+fn short_at(s: &[u8], i: usize) -> Option<u32>
     requires { bytes_of Form.Plain (i + 1) ≤ length s.now }
     ensures { result ≡ code_at Direction.ToShorts s.now i }
 {
     let short = recording_shorts::number(recording::u32_at(s, 4 * i));
     match short {
-        Some(n) => Code::Bits(n as u32),
-        None => Code::Odd,
+        Some(n) => Some(n as u32),
+        None => None,
     }
 }
 
-// Sample number i, converted.
-fn code_at(direction: Direction, s: &[u8], i: usize) -> Code
+// Sample number i, converted, if it is one of the other kind.
+fn code_at(direction: Direction, s: &[u8], i: usize) -> Option<u32>
     requires { bytes_of (form_from direction) (i + 1) ≤ length s.now }
     ensures { result ≡ code_at direction s.now i }
 {
@@ -60,47 +52,19 @@ fn code_at(direction: Direction, s: &[u8], i: usize) -> Code
     }
 }
 
-fn is_fine(code: Code) -> bool
-    ensures { result ≡ is_fine code }
-{
-    match code {
-        Code::Bits(_) => true,
-        Code::Odd => false,
-    }
-}
-
-fn bits_in(code: Code) -> u32
-    ensures { result ≡ bits_in code }
-{
-    match code {
-        Code::Bits(bits) => bits,
-        Code::Odd => 0,
-    }
-}
-
 // ---- samples of which one may be strange
-
-// Sample number i is one of n, and it is not strange.
-fn goes_on(direction: Direction, s: &[u8], i: usize, n: usize) -> bool
-    requires { bytes_of (form_from direction) n ≤ length s.now }
-    ensures { result ≡ both (ltb i n) (is_fine (code_at direction s.now i)) }
-{
-    if n <= i {
-        return false;
-    }
-    is_fine(code_at(direction, s, i))
-}
 
 // How many stand before the first strange one: all n where none is.
 fn fine_samples(direction: Direction, s: &[u8], n: usize) -> usize
     requires { bytes_of (form_from direction) n ≤ length s.now }
     ensures { (result ≤ n) × (first_strange direction s.now 0 n ≡ found_at n result) }
 {
-    let mut i = 0;
-    while goes_on(direction, s, i, n) {
-        i += 1;
+    for i in 0..n {
+        if code_at(direction, s, i).is_none() {
+            return i;
+        }
     }
-    i
+    n
 }
 
 // ---- writing
@@ -134,10 +98,9 @@ fn write_samples(direction: Direction, s: &[u8], n: usize, out: &mut [u8])
     ensures { out.new ≡ stored direction s.now n ++ drop (bytes_of (form_to direction) n) out.old }
 {
     let width = width_of(direction);
-    let mut i = 0;
-    while i < n {
-        put(out, width * i, width, bits_in(code_at(direction, s, i)));
-        i += 1;
+    for i in 0..n {
+        let bits = code_at(direction, s, i).unwrap_or(0);
+        put(out, width * i, width, bits);
     }
 }
 
@@ -161,52 +124,29 @@ fn form_to(direction: Direction) -> Form
 }
 
 // Converts the first `count` samples that the bytes s hold, to the start of out, all of them or none.
-pub fn store(direction: Direction, s: &[u8], count: u32, out: &mut [u8]) -> Storing
+pub fn store(direction: Direction, s: &[u8], count: u32, out: &mut [u8]) -> Result<usize, Unstored>
     ensures { (result ≡ storing direction s.now count out.old) × (out.new ≡ stored_into direction s.now count out.old) }
 {
     if (s.len() as u64) < recording::bytes_of(form_from(direction), count) {
-        return Storing::NoRoom;
+        return Err(Unstored::NoRoom);
     }
     let given = recording::bytes_of(form_to(direction), count);
     if (out.len() as u64) < given {
-        return Storing::NoRoom;
+        return Err(Unstored::NoRoom);
     }
     let fine = fine_samples(direction, s, count as usize);
     if fine < count as usize {
-        return Storing::StrangeAt(fine as u32);
+        return Err(Unstored::StrangeAt(fine as u32));
     }
     write_samples(direction, s, count as usize, out);
-    Storing::All(given as usize)
+    Ok(given as usize)
 }
 
 // Whether the direction takes recordings of this form.
 pub fn takes(direction: Direction, form: Form) -> bool
     ensures { result ≡ same_form (form_from direction) form }
 {
-    match direction {
-        Direction::ToFloats => is_shorts(form),
-        Direction::ToShorts => is_plain(form),
-    }
-}
-
-fn is_shorts(form: Form) -> bool
-    ensures { result ≡ same_form Form.Shorts form }
-{
-    match form {
-        Form::Plain => false,
-        Form::Floats => false,
-        Form::Shorts => true,
-    }
-}
-
-fn is_plain(form: Form) -> bool
-    ensures { result ≡ same_form Form.Plain form }
-{
-    match form {
-        Form::Plain => true,
-        Form::Floats => false,
-        Form::Shorts => false,
-    }
+    form_from(direction) == form
 }
 
 // ---- the header

@@ -1,30 +1,42 @@
 -- `recording_store::fine_samples` meets its contract: all samples that the loop passed are fine.
-use mathlib.Core.Path.{sym, ◌∙◌}
+use mathlib.Core.Path.{◌≡◌, sym, ap, ◌∙◌}
+use mathlib.Core.Bool.{true, false}
+use Prim.Native.Nat.{◌+◌}
 use native.Mathlib.Omega.{arith}
-use Rattle.recording_store.proofs.Laws.{goes_less, goes_fine, fine_none, fine_more, found_at_lem}
+use lib.Dec.{ltb}
+use borrow.Author.Tests.{le-ltb}
+use Rattle.answers.specs.Pick.{pick_false}
+use Rattle.recording.proofs.Forms.{bytes_mono}
+use Rattle.recording_convert.specs.Converting.{form_from}
+use Rattle.recording_store.specs.Steps.{is_fine, code_at}
+use Rattle.recording_store.proofs.Laws.{fine_none, fine_more, strange_here, found_at_lem}
 use Rattle.recording_store.proofs.fine_samples.Goals as goal
 
-pub loop-direction-init : goal.loop-direction-init
-loop-direction-init c = (omega arith, fine_none c.args.direction c.args.s.now)
+pub loop-i-init : goal.loop-i-init
+loop-i-init c = fine_none c.args.direction c.args.s.now
 
-pub goes_on-requires : goal.goes_on-requires
-goes_on-requires c = c.requires
+pub code_at-requires : goal.code_at-requires
+code_at-requires c =
+    let a = c.args in
+    omega (arith, c.requires, bytes_mono (form_from a.direction) (c.loop-i.i + 1) a.n (omega arith))
 
-pub overflow_add-i : goal.overflow_add-i
-overflow_add-i c = omega (arith, goes_less c.loop-direction.i _ _ (sym c.goes_on.ensures ∙ c.loop-direction-test.true))
+pub returns-then-is_none : goal.returns-then-is_none
+returns-then-is_none c =
+    let a = c.args in
+    let i = c.loop-i.i in
+    let strange : is_fine (code_at a.direction a.s.now i) ≡ false = rw (← c.code_at.ensures) (c.is_none.ensures ∙ rw c.if-is_none.true) in
+    (omega arith, found_at_lem a.direction a.s.now a.n i (omega arith) c.loop-i.invariant (strange_here i a.n _ strange))
 
-pub loop-direction-smaller : goal.loop-direction-smaller
-loop-direction-smaller c = omega (arith, goes_less c.loop-direction.i _ _ (sym c.goes_on.ensures ∙ c.loop-direction-test.true))
-
-pub loop-direction-preserved : goal.loop-direction-preserved
-loop-direction-preserved c =
-    let now = c.loop-direction in
-    let from = c.args in
-    let goes = sym c.goes_on.ensures ∙ c.loop-direction-test.true in
-    (omega (arith, goes_less now.i from.n _ goes), fine_more from.direction from.s.now now.i now.invariant.1 (goes_fine now.i from.n _ goes))
+pub loop-i-preserved : goal.loop-i-preserved
+loop-i-preserved c =
+    let a = c.args in
+    let i = c.loop-i.i in
+    let fine : is_fine (code_at a.direction a.s.now i) ≡ true = rw (← c.code_at.ensures) (c.is_none.ensures ∙ rw c.if-is_none.false) in
+    fine_more a.direction a.s.now i c.loop-i.invariant fine
 
 pub returns : goal.returns
 returns c =
-    let end = c.loop-direction in
-    let from = c.args in
-    (end.invariant.0, found_at_lem from.direction from.s.now from.n end.i end.invariant.0 end.invariant.1 (sym c.goes_on.ensures ∙ c.loop-direction-test.false))
+    let a = c.args in
+    let i = c.loop-i.i in
+    let all : i ≡ a.n = omega arith in
+    (omega arith, found_at_lem a.direction a.s.now a.n a.n (omega arith) (rw all at c.loop-i.invariant) (pick_false _ _ _ (le-ltb a.n a.n (omega arith))))

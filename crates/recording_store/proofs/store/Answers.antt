@@ -3,7 +3,7 @@ use mathlib.Core.Path.{ap, ◌∙◌}
 use native.Mathlib.Omega.{arith}
 use Rattle.recording.specs.Samples.{bytes_of}
 use Rattle.recording.specs.declared.Form.{Form}
-use Rattle.recording_store.specs.declared.Storing.TheVariants.{All}
+use Rattle.std.specs.Prelude.{Ok}
 use Rattle.recording_store.proofs.Laws.{few_bytes, no_room, strange_told, none_found, all_told}
 use Rattle.recording_store.proofs.store.Goals as goal
 
@@ -38,4 +38,4 @@ returns c =
     let none = none_found a.direction a.s.now a.count a.out.now c.fine_samples-fine.result (omega arith) c.fine_samples-fine.ensures.1 in
     let given = (c.bytes_of-given.ensures ∙ ap (λ (f : Form). bytes_of f a.count) c.form_to.ensures) in
     let told = all_told a.direction a.s.now a.count a.out.now (omega (arith, (c.bytes_of.ensures ∙ ap (λ (f : Form). bytes_of f a.count) c.form_from.ensures))) (omega (arith, given)) none _ c.write_samples.ensures in
-    (ap All given ∙ told.0, told.1)
+    (ap Ok given ∙ told.0, told.1)

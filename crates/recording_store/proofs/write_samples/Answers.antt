@@ -16,7 +16,7 @@ use Rattle.recording_store.proofs.write_samples.Goals as goal
 pub loop-i-init : goal.loop-i-init
 loop-i-init c =
     let from = c.args in
-    (omega arith, store_none from.direction from.s.now from.out.now from.n c.requires.2 c.requires.1)
+    store_none from.direction from.s.now from.out.now from.n c.requires.2 c.requires.1
 
 pub overflow_mul-width : goal.overflow_mul-width
 overflow_mul-width c =
@@ -35,33 +35,28 @@ put-requires c =
     let from = c.args in
     let loop = c.loop-i in
     let i = loop.i in
-    omega (arith, ap (λ (k : ℕ). k * i + k) c.width_of-width.ensures, bytes_mono (form_to from.direction) (i + 1) from.n (omega arith), c.requires.1, store_length from.direction from.s.now from.out.now from.n c.requires.2 c.requires.1 i loop.invariant.0 loop.out loop.invariant.1)
-
-pub loop-i-smaller : goal.loop-i-smaller
-loop-i-smaller c = omega arith
+    omega (arith, ap (λ (k : ℕ). k * i + k) c.width_of-width.ensures, bytes_mono (form_to from.direction) (i + 1) from.n (omega arith), c.requires.1, store_length from.direction from.s.now from.out.now from.n c.requires.2 c.requires.1 i (omega arith) loop.out loop.invariant)
 
 pub loop-i-preserved : goal.loop-i-preserved
 loop-i-preserved c =
     let from = c.args in
     let loop = c.loop-i in
     let W = width (form_to from.direction) in
-    let bits = c.bits_in.ensures ∙ ap bits_in c.code_at.ensures in (
-      omega arith,
-      c.put.ensures
-          ∙ ap (λ (k : ℕ). sets loop.out (k * loop.i) (bytes k c.bits_in.result)) c.width_of-width.ensures
-          ∙ ap (λ (b : ℕ). sets loop.out (W * loop.i) (bytes W b)) bits
-          ∙ store_more from.direction from.s.now from.out.now from.n c.requires.2 c.requires.1 loop.i (omega arith) loop.out loop.invariant.1,
-    )
+    let bits = c.unwrap_or-bits.ensures ∙ ap bits_in c.code_at.ensures in
+    c.put.ensures
+    ∙ ap (λ (k : ℕ). sets loop.out (k * loop.i) (bytes k c.unwrap_or-bits.result)) c.width_of-width.ensures
+    ∙ ap (λ (b : ℕ). sets loop.out (W * loop.i) (bytes W b)) bits
+    ∙ store_more from.direction from.s.now from.out.now from.n c.requires.2 c.requires.1 loop.i (omega arith) loop.out loop.invariant
 
 pub shape_of-out : goal.shape_of-out
 shape_of-out c =
     let from = c.args in
     let loop = c.loop-i in
-    store_length from.direction from.s.now from.out.now from.n c.requires.2 c.requires.1 loop.i loop.invariant.0 loop.out loop.invariant.1
+    store_length from.direction from.s.now from.out.now from.n c.requires.2 c.requires.1 loop.i (omega arith) loop.out loop.invariant
 
 pub returns : goal.returns
 returns c =
     let from = c.args in
     let loop = c.loop-i in
-    let all : loop.i ≡ from.n = omega (arith, loop.invariant.0) in
-    loop.invariant.1 ∙ ap (λ (k : ℕ). stored from.direction from.s.now k ++ drop (bytes_of (form_to from.direction) k) from.out.now) all
+    let all : loop.i ≡ from.n = omega arith in
+    loop.invariant ∙ ap (λ (k : ℕ). stored from.direction from.s.now k ++ drop (bytes_of (form_to from.direction) k) from.out.now) all
