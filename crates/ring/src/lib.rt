@@ -108,10 +108,7 @@ impl Ring {
         if refusal != 0 {
             return Kept::Refused(refusal);
         }
-        if at < answers::saturating_sub(self.accepted, buf.len() as u64) {
-            return Kept::NotKept;
-        }
-        if at >= self.accepted {
+        if at < self.accepted.saturating_sub(buf.len() as u64) || at >= self.accepted {
             return Kept::NotKept;
         }
         Kept::At(slot(buf.len(), at))
@@ -135,7 +132,7 @@ impl Ring {
     pub fn dropped(self, buf: &[u32]) -> Count
         ensures { result ≡ dropped_of self (length buf.now) }
     {
-        let oldest = answers::saturating_sub(self.accepted, buf.len() as u64);
+        let oldest = self.accepted.saturating_sub(buf.len() as u64);
         Count::of(self.refusal(buf.len()), oldest)
     }
 
@@ -160,10 +157,8 @@ fn store_all(buf: &mut [u32], next: u64, samples: &[u32])
     requires { (0 < length buf.old) × (next + length samples.now ≤ limit) }
     ensures { buf.new ≡ stored next buf.old samples.now }
 {
-    let mut i = 0;
-    while i < samples.len() {
+    for (i, &sample) in samples.iter().enumerate() {
         let at = slot(buf.len(), next + i as u64);
-        buf[at] = samples[i];
-        i += 1;
+        buf[at] = sample;
     }
 }

@@ -10,13 +10,13 @@ fn places_before(at: u64, back: u64, index: u64, n: u64) -> u64
     ensures { result ≡ min n (back + index - at) }
 {
     if back <= at {
-        return answers::smaller(n, answers::saturating_sub(index, at - back));
+        return n.min(index.saturating_sub(at - back));
     }
     let before = back - at;
     if n <= before {
         return n;
     }
-    before + answers::smaller(n - before, index)
+    before + (n - before).min(index)
 }
 
 // Gives the index of a place that does not lie before the stream's first sample.
@@ -35,7 +35,7 @@ pub fn cut(accepted: u64, capacity: usize, at: u64, back: u64, n: usize) -> Cut
     ensures { Cuts accepted capacity at back n result }
 {
     let slots = capacity as u64;
-    let oldest = answers::saturating_sub(accepted, slots);
+    let oldest = accepted.saturating_sub(slots);
     let head = places_before(at, back, oldest, n as u64);
     let end = places_before(at, back, accepted, n as u64);
     if end <= head {
@@ -48,7 +48,7 @@ pub fn cut(accepted: u64, capacity: usize, at: u64, back: u64, n: usize) -> Cut
         };
     }
     let slot = index_of(at, back, head) % slots;
-    let run = answers::smaller(end - head, slots - slot);
+    let run = (end - head).min(slots - slot);
     Cut {
         head: head as usize,
         slot: slot as usize,

@@ -3,6 +3,7 @@
 #![tactic(auto)]
 
 mod cutting; // where a window meets the ring
+mod blanks; // the places of a window that are missing
 mod patterns; // a window is written as patterns
 mod values; // a window is written as floats
 mod storing; // floats go into the buffer

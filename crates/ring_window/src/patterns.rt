@@ -1,32 +1,17 @@
 // Writes a window as patterns.
-ghost use Rattle.std.specs.Prelude.{◌≡◌, ◌+◌, ◌≤◌, length, drop, replicate};
+ghost use Rattle.std.specs.Prelude.{◌≡◌, ◌+◌, ◌≤◌, length, drop};
 ghost use Rattle.std.proofs.Math.Seq.{paste};
 ghost use Rattle.ring_window.specs.Cuts.{Fitting, pieces};
 
 use crate::Cut;
-
-// Writes n times 0, from one place on.
-fn blank(window: &mut [u32], from: usize, n: usize)
-    requires { from + n ≤ length window.old }
-    ensures { window.new ≡ paste window.old from (replicate n 0) n }
-{
-    let mut i = 0;
-    while i < n {
-        window[from + i] = 0;
-        i += 1;
-    }
-}
+use crate::blanks::blank;
 
 // Copies n patterns of the buffer, from one slot on.
 fn copy(window: &mut [u32], to: usize, buf: &[u32], slot: usize, n: usize)
     requires { (to + n ≤ length window.old) × (slot + n ≤ length buf.now) }
     ensures { window.new ≡ paste window.old to (drop slot buf.now) n }
 {
-    let mut i = 0;
-    while i < n {
-        window[to + i] = buf[slot + i];
-        i += 1;
-    }
+    window[to..to + n].copy_from_slice(&buf[slot..slot + n]);
 }
 
 pub fn fill(window: &mut [u32], buf: &[u32], c: Cut)
@@ -35,8 +20,8 @@ pub fn fill(window: &mut [u32], buf: &[u32], c: Cut)
 {
     let around = c.head + c.run;
     let end = around + c.wrapped;
-    blank(window, 0, c.head);
+    blank(window, 0, c.head, 0);
     copy(window, c.head, buf, c.slot, c.run);
     copy(window, around, buf, 0, c.wrapped);
-    blank(window, end, c.tail);
+    blank(window, end, c.tail, 0);
 }

@@ -23,10 +23,8 @@ pub fn store_all(buf: &mut [u32], next: u64, samples: &[f32])
 {
     let capacity = buf.len();
     let mut slot = (next % capacity as u64) as usize;
-    let mut i = 0;
-    while i < samples.len() {
-        buf[slot] = floats::bits::pattern32(samples[i]);
+    for &sample in samples {
+        buf[slot] = floats::bits::pattern32(sample);
         slot = after(slot, capacity);
-        i += 1;
     }
 }

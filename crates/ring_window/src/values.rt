@@ -1,33 +1,20 @@
 // Writes a window as floats.
-ghost use Rattle.std.specs.Prelude.{◌≡◌, map, ◌+◌, ◌≤◌, length, drop, replicate};
+ghost use Rattle.std.specs.Prelude.{◌≡◌, map, ◌+◌, ◌≤◌, length, drop};
 ghost use Rattle.std.proofs.Math.Seq.{paste};
 ghost use Rattle.std.specs.Float.{binary32};
 ghost use Rattle.std.specs.Float.Ieee.{of_bits};
 ghost use Rattle.ring_window.specs.Cuts.{Fitting, pieces};
 
 use crate::Cut;
-
-// Writes n times +0, from one place on.
-fn blank(window: &mut [f32], from: usize, n: usize)
-    requires { from + n ≤ length window.old }
-    ensures { window.new ≡ paste window.old from (replicate n (of_bits binary32 0)) n }
-{
-    let mut i = 0;
-    while i < n {
-        window[from + i] = 0.0;
-        i += 1;
-    }
-}
+use crate::blanks::blank;
 
 // Copies n samples of the buffer, from one slot on.
 fn copy(window: &mut [f32], to: usize, buf: &[u32], slot: usize, n: usize)
     requires { (to + n ≤ length window.old) × (slot + n ≤ length buf.now) }
     ensures { window.new ≡ paste window.old to (map (of_bits binary32) (drop slot buf.now)) n }
 {
-    let mut i = 0;
-    while i < n {
-        window[to + i] = floats::bits::float32(buf[slot + i]);
-        i += 1;
+    for (i, &pattern) in buf[slot..slot + n].iter().enumerate() {
+        window[to + i] = floats::bits::float32(pattern);
     }
 }
 
@@ -37,8 +24,8 @@ pub fn fill(window: &mut [f32], buf: &[u32], c: Cut)
 {
     let around = c.head + c.run;
     let end = around + c.wrapped;
-    blank(window, 0, c.head);
+    blank(window, 0, c.head, 0.0);
     copy(window, c.head, buf, c.slot, c.run);
     copy(window, around, buf, 0, c.wrapped);
-    blank(window, end, c.tail);
+    blank(window, end, c.tail, 0.0);
 }

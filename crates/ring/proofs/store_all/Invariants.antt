@@ -1,4 +1,4 @@
-use Prim.Native.Nat.{◌≤◌, ◌+◌, ◌-◌}
+use Prim.Native.Nat.{◌+◌}
 use mathlib.Core.Path.{◌≡◌}
 use lib.ListN.{length, drop}
 use Rattle.ring.specs.Ring.{stored}
@@ -6,7 +6,4 @@ use Rattle.ring.proofs.store_all.Given as goal
 
 abbrev pub invariant-loop-i : goal.invariant-loop-i
 invariant-loop-i l =
-    (l.i ≤ length l.samples) × (length l.buf ≡ length l.initial.buf) × (stored (l.next + l.i) l.buf (drop l.i l.samples) ≡ stored l.next l.initial.buf l.samples)
-
-abbrev pub decreases-loop-i : goal.decreases-loop-i
-decreases-loop-i l = length l.samples - l.i
+    (length l.buf ≡ length l.initial.buf) × (stored (l.next + l.i) l.buf (drop l.i l.samples) ≡ stored l.next l.initial.buf l.samples)

@@ -1,4 +1,5 @@
 -- `Ring::get` meets its contract.
+use Rattle.std.proofs.Common.{arith}
 use Rattle.answers.proofs.Cases.{cases}
 use Rattle.ring.specs.Ring.{gotten}
 use Rattle.ring.proofs.Ring.get.Goals as goal
@@ -9,12 +10,8 @@ returns-then-refusal-ne0 c = search (cases, ← c.refusal-refusal.ensures)
 
 pub returns-then-at-saturating_sub : goal.returns-then-at-saturating_sub
 unfolding gotten
-returns-then-at-saturating_sub c = search (cases, ← c.refusal-refusal.ensures, ← c.saturating_sub.ensures)
-
-pub returns-then-at-self : goal.returns-then-at-self
-unfolding gotten
-returns-then-at-self c = search (cases, ← c.refusal-refusal.ensures, ← c.saturating_sub.ensures)
+returns-then-at-saturating_sub c = let s = c.saturating_sub.ensures in grind (arith, cases, s, c.refusal-refusal.ensures)
 
 pub returns : goal.returns
 unfolding gotten
-returns c = search (cases, ← c.refusal-refusal.ensures, ← c.saturating_sub.ensures, ← c.slot.ensures.0)
+returns c = let s = c.saturating_sub.ensures in grind (arith, cases, s, c.refusal-refusal.ensures, c.slot.ensures.0)

@@ -15,7 +15,7 @@ pub overflow_sub-slots : goal.overflow_sub-slots
 overflow_sub-slots c = omega (arith, mod-lt c.index_of.result c.requires.0)
 
 pub overflow_sub-result-3 : goal.overflow_sub-result-3
-overflow_sub-result-3 c = omega (arith, c.smaller-run.ensures)
+overflow_sub-result-3 c = omega (arith, c.min-run.ensures)
 
 pub overflow_sub-result-4 : goal.overflow_sub-result-4
 overflow_sub-result-4 c = omega (arith, c.places_before-end.ensures)
@@ -23,4 +23,4 @@ overflow_sub-result-4 c = omega (arith, c.places_before-end.ensures)
 pub returns : goal.returns
 returns c =
     let a = c.args in
-    cut_some a.accepted a.capacity a.at a.back a.n _ _ (c.places_before-head.ensures ∙ ap (λ (k : ℕ). min a.n (a.back + k - a.at)) c.saturating_sub-oldest.ensures) c.places_before-end.ensures c.if-end-head.false c.requires.0 c.index_of.result _ _ c.index_of.ensures refl c.smaller-run.ensures
+    cut_some a.accepted a.capacity a.at a.back a.n _ _ (c.places_before-head.ensures ∙ ap (λ (k : ℕ). min a.n (a.back + k - a.at)) c.saturating_sub-oldest.ensures) c.places_before-end.ensures c.if-end-head.false c.requires.0 c.index_of.result _ _ c.index_of.ensures refl c.min-run.ensures
