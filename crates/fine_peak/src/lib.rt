@@ -90,12 +90,10 @@ fn survey(correlation: &[f32], n: usize) -> Heights
         value: 0.0,
     };
     let mut total = 0.0;
-    let mut k = 0;
-    while k < n {
-        let height = floats::magnitude(std::num::f32_to_f64_with_nan(correlation[k]));
-        total = total + height;
+    for (k, &entry) in correlation[..n].iter().enumerate() {
+        let height = floats::magnitude(f64::from(entry));
+        total += height;
         crest = met(crest, k as u64, height);
-        k += 1;
     }
     Heights { crest, total }
 }
@@ -121,9 +119,8 @@ fn weak(crest: Crest, mean: f64) -> bool
 fn peak_refusal(fine: Fine, correlation: &[f32]) -> u8
     ensures { result ≡ peak_refusal fine correlation.now }
 {
-    let lengths = fine.lengths;
-    let due = Lengths::of(lengths.span);
-    let entries = lengths.span as usize + 1;
+    let due = Lengths::of(fine.lengths.span);
+    let entries = fine.lengths.span as usize + 1;
     let earlier = fine.first_refusals(due, entries <= correlation.len());
     if earlier != 0 {
         return earlier;
@@ -138,20 +135,14 @@ fn peak_refusal(fine: Fine, correlation: &[f32]) -> u8
 fn record_scan(fine: Fine, peak_at: Positions, ratio: f64) -> Fine
     ensures { result ≡ recorded fine peak_at ratio }
 {
-    let lengths = fine.lengths;
-    let origin = fine.origin;
-    let frames = fine.frames;
-    let scans = fine.scans;
     Fine {
-        lengths,
-        origin,
-        frames,
         scans: Scans {
-            count: answers::next_long_count(scans.count),
+            count: fine.scans.count.saturating_add(1),
             ratio,
             peak_at: Some(peak_at),
-            origin,
+            origin: fine.origin,
         },
+        ..fine
     }
 }
 
@@ -160,11 +151,9 @@ fn lock_at(fine: Fine, peak_at: Positions, ratio: f64) -> Lock
     requires { (fine.origin.0 < limit) × (peak_at.first ≤ fine.lengths.span) }
     ensures { result ≡ lock_of fine peak_at ratio }
 {
-    let lengths = fine.lengths;
-    let origin = fine.origin;
-    let to_peak = origin.0 + lengths.span as u64 - peak_at.first;
+    let to_peak = fine.origin.0 + fine.lengths.span as u64 - peak_at.first;
     Lock {
-        delay: Samples(answers::saturating_sub(to_peak, Lock::MARGIN_SAMPLES)),
+        delay: Samples(to_peak.saturating_sub(Lock::MARGIN_SAMPLES)),
         peak_at,
         ratio,
     }
@@ -174,18 +163,17 @@ fn rule(fine: Fine, crest: Crest, mean: f64) -> Searched
     requires { (fine.origin.0 < limit) × (crest.places.first ≤ fine.lengths.span) }
     ensures { result ≡ ruled fine crest mean }
 {
-    let places = crest.places;
     let height = ratio(crest, mean);
-    let recorded = record_scan(fine, places, height);
+    let recorded = record_scan(fine, crest.places, height);
     if weak(crest, mean) {
         return Searched {
             fine: recorded,
-            answer: PeakAnswer::NoCandidate(places),
+            answer: PeakAnswer::NoCandidate(crest.places),
         };
     }
     Searched {
         fine: recorded,
-        answer: PeakAnswer::Candidate(lock_at(fine, places, height)),
+        answer: PeakAnswer::Candidate(lock_at(fine, crest.places, height)),
     }
 }
 
@@ -193,7 +181,6 @@ fn rule(fine: Fine, crest: Crest, mean: f64) -> Searched
 pub fn peak(fine: Fine, correlation: &[f32]) -> Searched
     ensures { result ≡ searched fine correlation.now }
 {
-    let lengths = fine.lengths;
     let refusal = peak_refusal(fine, correlation);
     if refusal != 0 {
         return Searched {
@@ -201,9 +188,8 @@ pub fn peak(fine: Fine, correlation: &[f32]) -> Searched
             answer: PeakAnswer::Refused(refusal),
         };
     }
-    let entries = lengths.span as usize + 1;
+    let entries = fine.lengths.span as usize + 1;
     let seen = survey(correlation, entries);
-    let highest = seen.crest;
     let mean = seen.total / entries as f64;
-    rule(fine, highest, mean)
+    rule(fine, seen.crest, mean)
 }

@@ -13,9 +13,7 @@ pub fn settle_change(state: &mut [u64], changed: Changed) -> u32
     ensures number { result ≡ number (change_told changed.answer) }
     ensures words { state.new ≡ changed_words state.old changed }
 {
-    let ring = changed.ring;
-    let answer = changed.answer;
-    crate::settle(state, words::change_number(answer), ring)
+    crate::settle(state, words::change_number(changed.answer), changed.ring)
 }
 
 pub fn tell_kept(values: &mut [u64], kept: Kept) -> u32
