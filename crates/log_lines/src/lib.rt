@@ -200,6 +200,16 @@ pub fn put_line(out: &mut [u8], line: Line) -> usize
     }
 }
 
+// The same from `at` on.
+pub fn put_line_at(out: &mut [u8], at: usize, line: Line) -> usize
+    requires { at + 75 ≤ length out.old }
+    ensures { Put out.old at (text_of line) out.new result }
+{
+    let mut text = [0u8; 75];
+    let n = put_line(&mut text, line);
+    put(out, at, &text[..n])
+}
+
 // Writes the line's text, without a newline, at the start of out, and answers how many bytes it has, or none without room for it.
 pub fn write_line(line: Line, out: &mut [u8]) -> Option<usize>
     ensures { (result ≡ written line out.old) × (out.new ≡ written_out line out.old) }

@@ -13,7 +13,8 @@ use Rattle.log_parts.specs.Sorts.{sort_of, is_of, of_sort, number_of, same_line}
 use Rattle.log_parts.specs.Named.{line_in, rises, next_least, named_as, named_from, named}
 use Rattle.log_parts.specs.Numbers.{line_at, differs_at, count, differing, least_of, least_differing, first_by_number}
 use Rattle.log_parts.specs.Parts.{by_order, report_of, parting}
-use Rattle.log_report.specs.Texts.{side_words, marked_text, differ_text, section_text, sections_text, alike, all_alike, place_text, order_text, counts_text, report_text, why_text, shown_text, where_text, strange_text, parted_text}
+use Rattle.log_report.specs.Texts.{side_words, marked_text, differ_text, section_text, sections_text, alike, all_alike, place_text, order_text, counts_text, report_text, why_text, where_text, strange_text, parted_text}
+use Rattle.log_text.specs.Shown.{shown_text}
 
 -- what is told of two files, a.log and b.log, that hold these texts
 abbrev pub told : String → String → List ℕ

@@ -16,7 +16,8 @@ use Rattle.log_parts.specs.Parts.{Parted, NotALogLine, Same, Parts, parting}
 use Rattle.log_parts.proofs.Judging.{too_long}
 use Rattle.log_passes.specs.Hosts.{Hosted, shortened}
 use Rattle.log_passes.proofs.Hosts.{parted_is}
-use Rattle.log_report.specs.Texts.{ended, why_text, shown_text, strange_text, parted_text}
+use Rattle.log_text.specs.Shown.{ended, shown_text}
+use Rattle.log_report.specs.Texts.{why_text, strange_text, parted_text}
 
 -- of a line of more than 76 bytes the same is told as of its first 76
 long_told : (name : List ℕ) (place : ℕ) (t : List ℕ) → 76 < length t → strange_text name place (take 76 t) ≡ strange_text name place t

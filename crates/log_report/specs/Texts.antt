@@ -5,14 +5,11 @@ use Rattle.log_lines.specs.declared.Line.{Line}
 use Rattle.log_lines.specs.Text.{ascii, decimal}
 use Rattle.log_lines.specs.Lines.{text_of}
 use Rattle.log_text.specs.Text.{newline}
-use Rattle.log_text.specs.Cut.{longest}
+use Rattle.log_text.specs.Shown.{ended, shown_text}
 use Rattle.log_parts.specs.Named.{line_in}
 use Rattle.log_parts.specs.Parts as parts
 use Rattle.log_parts.specs.declared.Difference.{Difference}
 use Rattle.log_parts.specs.declared.Report.{Report}
-
-abbrev pub ended : List ℕ
-ended = newline ∷ []
 
 -- ---- each sort that differs: a heading, the first log's line and the second's
 
@@ -70,9 +67,6 @@ why_by None = []
 
 unfoldable pub why_text : List ℕ → List ℕ
 why_text t = why_by (line_in t)
-
-unfoldable pub shown_text : List ℕ → List ℕ
-shown_text t = pick (leb (length t) longest) (t ++ ended) (take longest t ++ (ascii " .." ++ ended))
 
 unfoldable pub where_text : List ℕ → ℕ → List ℕ
 where_text name place = ascii "refused 8: " ++ name ++ (ascii " line " ++ decimal place) ++ ascii ": "

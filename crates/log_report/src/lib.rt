@@ -2,9 +2,8 @@
 #![tactic(auto)]
 
 ghost use Rattle.std.specs.Prelude.{◌≡◌, ◌++◌, ◌+◌, ◌≤◌, length};
-ghost use Rattle.log_lines.specs.Lines.{text_of};
 ghost use Rattle.log_lines.specs.Steps.{Put};
-ghost use Rattle.log_report.specs.Texts.{side_words, marked_text, differ_text, section_text, sections_text, all_alike, order_text, counts_text, report_text, why_text, shown_text, where_text, strange_text, place_text};
+ghost use Rattle.log_report.specs.Texts.{side_words, marked_text, differ_text, section_text, sections_text, all_alike, order_text, counts_text, report_text, why_text, where_text, strange_text, place_text};
 ghost use Rattle.log_report.specs.Calls.{reported, reported_out, refused_as, refused_out};
 
 use log_lines::Line;
@@ -12,22 +11,13 @@ use log_parts::{Difference, Report};
 
 // ---- the two lines that differ
 
-fn put_line(out: &mut [u8], at: usize, line: Line) -> usize
-    requires { at + 75 ≤ length out.old }
-    ensures { Put out.old at (text_of line) out.new result }
-{
-    let mut text = [0u8; 75];
-    let n = log_lines::put_line(&mut text, line);
-    log_lines::put(out, at, &text[..n])
-}
-
 fn put_side(out: &mut [u8], at: usize, side: Option<Line>) -> usize
     requires { at + 75 ≤ length out.old }
     ensures { Put out.old at (side_words side) out.new result }
 {
     match side {
         None => log_lines::put(out, at, b"nothing"),
-        Some(line) => put_line(out, at, line),
+        Some(line) => log_lines::put_line_at(out, at, line),
     }
 }
 
@@ -146,19 +136,6 @@ fn put_why(out: &mut [u8], at: usize, text: &[u8]) -> usize
     }
 }
 
-// A line longer than any of a log is cut short.
-fn put_shown(out: &mut [u8], at: usize, text: &[u8]) -> usize
-    requires { at + 79 ≤ length out.old }
-    ensures { Put out.old at (shown_text text.now) out.new result }
-{
-    if text.len() <= 75 {
-        let end = log_lines::put(out, at, text);
-        return log_lines::put(out, end, b"\n");
-    }
-    let next = log_lines::put(out, at, &text[..75]);
-    log_lines::put(out, next, b" ..\n")
-}
-
 fn put_where(out: &mut [u8], name: &[u8], place: u64) -> usize
     requires { length name.now + 39 ≤ length out.old }
     ensures { Put out.old 0 (where_text name.now place) out.new result }
@@ -175,7 +152,7 @@ fn put_strange(out: &mut [u8], name: &[u8], place: u64, text: &[u8]) -> usize
 {
     let a = put_where(out, name, place);
     let b = put_why(out, a, text);
-    put_shown(out, b, text)
+    log_text::put_shown(out, b, text)
 }
 
 // Writes which line of which file is none of a log, at the start of out, which must have 140 bytes more than the name.

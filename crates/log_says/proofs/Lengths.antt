@@ -14,7 +14,8 @@ use Rattle.log_lines.specs.Steps.{Put}
 use Rattle.log_lines.proofs.Laws.{decimal_short}
 use Rattle.log_text.specs.Apart.{Side, Nothing, There}
 use Rattle.log_text.specs.Cut.{longest}
-use Rattle.log_says.specs.Says.{ended, place_text, shown_text, stands_text}
+use Rattle.log_text.specs.Shown.{ended, shown_text}
+use Rattle.log_says.specs.Says.{place_text, stands_text}
 
 pub place_short : (k : ℕ) → length (place_text k) ≤ 35
 unfolding place_text

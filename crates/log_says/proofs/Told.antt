@@ -19,7 +19,8 @@ use Rattle.log_text.specs.declared.Piece.{Piece}
 use Rattle.log_text.specs.declared.Piece.TheVariants as piece
 use Rattle.log_text.proofs.Newlines.{cut_tells_lem, long_starts, newline_within}
 use Rattle.log_hold.specs.declared.Verdict.TheVariants as verdict
-use Rattle.log_says.specs.Says.{ended, place_text, shown_text, stands_text, should_text, apart_text}
+use Rattle.log_text.specs.Shown.{ended, shown_text}
+use Rattle.log_says.specs.Says.{place_text, stands_text, should_text, apart_text}
 use Rattle.log_says.specs.Calls.{due_side, piece_side, side_at, said_text}
 
 -- two constructors are never equal: `cc` proves this of them

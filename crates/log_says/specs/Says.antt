@@ -5,16 +5,10 @@ use Rattle.answers.specs.Pick.{pick}
 use Rattle.log_lines.specs.Text.{ascii, decimal}
 use Rattle.log_text.specs.Text.{newline}
 use Rattle.log_text.specs.Apart.{Side, Nothing, There, Apart, Same, At}
-use Rattle.log_text.specs.Cut.{longest}
-
-abbrev pub ended : List ℕ
-ended = newline ∷ []
+use Rattle.log_text.specs.Shown.{ended, shown_text}
 
 unfoldable pub place_text : ℕ → List ℕ
 place_text k = ascii "wrong at line " ++ decimal k ++ ended
-
-unfoldable pub shown_text : List ℕ → List ℕ
-shown_text t = pick (leb (length t) longest) (t ++ ended) (take longest t ++ (ascii " .." ++ ended))
 
 unfoldable pub stands_text : Side → List ℕ
 stands_text Nothing = ascii "stands nothing" ++ ended

@@ -5,7 +5,7 @@ ghost use Rattle.std.specs.Prelude.{◌≡◌, ◌++◌, ◌+◌, ◌≤◌, len
 ghost use Rattle.log_lines.specs.Lines.{text_of};
 ghost use Rattle.log_lines.specs.Steps.{Put};
 ghost use Rattle.log_text.specs.Apart.{There};
-ghost use Rattle.log_says.specs.Says.{place_text, shown_text, stands_text, should_text};
+ghost use Rattle.log_says.specs.Says.{place_text, stands_text, should_text};
 ghost use Rattle.log_says.specs.Calls.{due_side, side_at, said_text, said, said_out};
 
 use log_hold::Verdict;
@@ -20,25 +20,12 @@ fn put_place(out: &mut [u8], line: u64) -> usize
     log_lines::put(out, next, b"\n")
 }
 
-// A line longer than any of a log is cut short.
-fn put_shown(out: &mut [u8], at: usize, text: &[u8]) -> usize
-    requires { at + 79 ≤ length out.old }
-    ensures { Put out.old at (shown_text text.now) out.new result }
-{
-    if text.len() <= 75 {
-        let end = log_lines::put(out, at, text);
-        return log_lines::put(out, end, b"\n");
-    }
-    let next = log_lines::put(out, at, &text[..75]);
-    log_lines::put(out, next, b" ..\n")
-}
-
 fn put_there(out: &mut [u8], at: usize, text: &[u8]) -> usize
     requires { at + 87 ≤ length out.old }
     ensures { Put out.old at (stands_text (There text.now)) out.new result }
 {
     let next = log_lines::put(out, at, b"stands: ");
-    put_shown(out, next, text)
+    log_text::put_shown(out, next, text)
 }
 
 // What stands at the front of the bytes at hand; `ended` if none come behind them.
@@ -55,21 +42,12 @@ fn put_stands(out: &mut [u8], at: usize, hand: &[u8], ended: bool) -> usize
     }
 }
 
-fn put_line(out: &mut [u8], at: usize, line: Line) -> usize
-    requires { at + 75 ≤ length out.old }
-    ensures { Put out.old at (text_of line) out.new result }
-{
-    let mut text = [0u8; 75];
-    let n = log_lines::put_line(&mut text, line);
-    log_lines::put(out, at, &text[..n])
-}
-
 fn put_right(out: &mut [u8], at: usize, line: Line) -> usize
     requires { at + 90 ≤ length out.old }
     ensures { Put out.old at (should_text (There (text_of line))) out.new result }
 {
     let next = log_lines::put(out, at, b"should stand: ");
-    let end = put_line(out, next, line);
+    let end = log_lines::put_line_at(out, next, line);
     log_lines::put(out, end, b"\n")
 }
 

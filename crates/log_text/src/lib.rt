@@ -1,8 +1,10 @@
 // A log as a list of lines: whether two are the same, and the next one among the bytes at hand.
 #![tactic(auto)]
 
-ghost use Rattle.std.specs.Prelude.{◌≡◌, ◌==◌, position};
+ghost use Rattle.std.specs.Prelude.{◌≡◌, ◌==◌, ◌+◌, ◌≤◌, length, position};
+ghost use Rattle.log_lines.specs.Steps.{Put};
 ghost use Rattle.log_text.specs.Cut.{first_newline, cut_of};
+ghost use Rattle.log_text.specs.Shown.{shown_text};
 ghost use Rattle.log_text.specs.Text.{same_text};
 
 // Whether two texts are the same, byte for byte.
@@ -53,4 +55,17 @@ pub fn cut(bytes: &[u8], ended: bool) -> Piece
         return Piece::Over;
     }
     Piece::Last(n)
+}
+
+// Writes a text into out from at on, as it is shown to a reader: one longer than any line of a log is cut short. Answers the place after it.
+pub fn put_shown(out: &mut [u8], at: usize, text: &[u8]) -> usize
+    requires { at + 79 ≤ length out.old }
+    ensures { Put out.old at (shown_text text.now) out.new result }
+{
+    if text.len() <= 75 {
+        let end = log_lines::put(out, at, text);
+        return log_lines::put(out, end, b"\n");
+    }
+    let next = log_lines::put(out, at, &text[..75]);
+    log_lines::put(out, next, b" ..\n")
 }

@@ -8,4 +8,4 @@ returns-in-None c = rw c.in-None.is c.put.ensures
 
 pub returns-in-Some : goal.returns-in-Some
 unfolding side_words
-returns-in-Some c = rw c.in-Some.is c.put_line.ensures
+returns-in-Some c = rw c.in-Some.is c.put_line_at.ensures

@@ -1,12 +1,12 @@
--- `log_report::put_shown` meets its contract.
+-- `log_text::put_shown` meets its contract.
 use native.Mathlib.Omega.{arith}
 use mathlib.Core.Path.{sym}
 use lib.Seq.{length-take-le}
 use borrow.Author.Tests.{le-leb, lt-leb}
 use Rattle.answers.specs.Pick.{pick_true, pick_false}
 use Rattle.log_lines.proofs.Laws.{then}
-use Rattle.log_report.specs.Texts.{shown_text}
-use Rattle.log_report.proofs.put_shown.Goals as goal
+use Rattle.log_text.specs.Shown.{shown_text}
+use Rattle.log_text.proofs.put_shown.Goals as goal
 
 pub returns-then-text-le75 : goal.returns-then-text-le75
 unfolding shown_text

@@ -1,9 +1,9 @@
--- `log_says::put_line` meets its contract.
+-- `log_lines::put_line_at` meets its contract.
 use mathlib.Core.Path.{sym}
 use native.Mathlib.Omega.{arith}
 use lib.Seq.{length-take-le}
 use Rattle.log_lines.proofs.Answers.{line_short, front}
-use Rattle.log_says.proofs.put_line.Goals as goal
+use Rattle.log_lines.proofs.put_line_at.Goals as goal
 
 pub slice_bounds-text-end : goal.slice_bounds-text-end
 slice_bounds-text-end c = omega (arith, line_short c.args.line, c.put_line-n.ensures.place, c.put_line-n.auto.out)
