@@ -121,13 +121,6 @@ pub fn past(side: Side, n: usize) -> Side
 
 // ---- the output
 
-fn both(a: bool, b: bool) -> bool {
-    if a {
-        return b;
-    }
-    false
-}
-
 fn written(to: Option<&File>, text: &[u8]) -> Result<(), Reason> {
     match to {
         Some(file) => told::write(file, text),
@@ -148,7 +141,7 @@ pub fn drain(side: Side, to: Option<&File>, room: &[u8]) -> Side
         input,
         out: Out {
             held: 0,
-            good: both(out.good, done.is_ok()),
+            good: out.good && done.is_ok(),
             reason: reason::behind(out.reason, done),
         },
     }

@@ -4,13 +4,13 @@ use Prim.Native.Nat.{ℕ, ◌+◌, ◌-◌, ◌≤◌, ◌<◌}
 use native.Mathlib.Omega.{arith}
 use native.Mathlib.Numerals.{add-one}
 use mathlib.Core.Path.{◌≡◌, refl, sym, ap, ◌∙◌}
-use mathlib.Core.Bool.{Bool, true, false, false≢true}
+use mathlib.Core.Bool.{true, false}
 use mathlib.Core.List.{List, [], ◌∷◌, ◌++◌, append_assoc}
 use lib.ListN.{length, take, drop, set, length-drop}
 use lib.Seq.{take-suc-set, take_all, drop-length, length-take-le, take-append-add, take-append_seam}
 use borrow.Author.Tests.{leb-true, leb-false}
 use borrow.Rule.Slice.PartMut.{mid_of, put_mid, Post-is}
-use Rattle.answers.specs.Pick.{both, either, pick_true, pick_case}
+use Rattle.answers.specs.Pick.{either, pick_true, pick_case}
 use Rattle.log_lines.specs.Lines.{text_of}
 use Rattle.log_lines.specs.Calls.{fits_into, written, written_out}
 use Rattle.log_lines.specs.declared.Line.{Line}
@@ -93,6 +93,3 @@ joins_lost l t t' room room' e inside bad =
       complains = λ g. absurd (bad g);
       finds = λ r. absurd (no_room_less l t.held room (fits_none l (drop t.held room) e) r);
     }
-
-pub both_first : (a b : Bool) → both a b ≡ true → a ≡ true
-both_first a b e = pick_case (λ (z : Bool). z ≡ true → a ≡ true) a b false (λ t e. t) (λ t e. absurd (false≢true e)) e

@@ -4,7 +4,7 @@
 
 ghost use Rattle.std.specs.Prelude.{◌≡◌, true, ◌++◌, ◌∷◌, [], ◌+◌, ◌≤◌, ◌<◌, ◌/◌, length, take, drop};
 ghost use Rattle.log_lines.specs.Calls.{written, written_out};
-ghost use Rattle.answers.specs.Pick.{both, either};
+ghost use Rattle.answers.specs.Pick.{either};
 ghost use Rattle.log_sink.specs.Sink.{complaint, Joined, Wrote};
 
 use log_lines::Line;
@@ -68,24 +68,6 @@ fn lost(text: Text) -> Text
     }
 }
 
-fn either(a: bool, b: bool) -> bool
-    ensures { result ≡ either a b }
-{
-    if a {
-        return true;
-    }
-    b
-}
-
-fn both(a: bool, b: bool) -> bool
-    ensures { result ≡ both a b }
-{
-    if a {
-        return b;
-    }
-    false
-}
-
 // n bytes of a line came behind what is held: its newline follows.
 fn ended(text: Text, room: &mut [u8], n: usize, complaint: bool) -> Text
     requires { text.held ≤ length room.old }
@@ -102,7 +84,7 @@ fn ended(text: Text, room: &mut [u8], n: usize, complaint: bool) -> Text
         watched: text.watched,
         held: end + 1,
         good: text.good,
-        amiss: either(text.amiss, complaint),
+        amiss: text.amiss || complaint,
         reason: text.reason,
     }
 }
@@ -138,7 +120,7 @@ pub fn drain(text: Text, room: &[u8]) -> Text
         out: text.out,
         watched: text.watched,
         held: 0,
-        good: both(text.good, done.is_ok()),
+        good: text.good && done.is_ok(),
         amiss: text.amiss,
         reason: reason::behind(text.reason, done),
     }

@@ -5,6 +5,7 @@ use Prim.Native.Nat.{◌+◌}
 use lib.ListN.{length-set}
 use Rattle.log_sink.proofs.Joining.{newline_behind}
 use borrow.Author.Rules.{rules}
+use Rattle.answers.proofs.Cases.{cases}
 use Rattle.log_sink.proofs.ended.Goals as goal
 
 pub returns-then-room-held : goal.returns-then-room-held
@@ -15,4 +16,4 @@ returns-then-room-held c =
 
 pub returns : goal.returns
 returns c =
-    (simp length-set (search rules), (λ g. newline_behind c.args.room.now (c.args.text.held + c.args.n) (omega (arith, c.if-room-held.false))), (λ g. c.either.ensures), λ r. refl)
+    (simp length-set (search rules), (λ g. newline_behind c.args.room.now (c.args.text.held + c.args.n) (omega (arith, c.if-room-held.false))), (λ g. grind (arith, cases)), λ r. refl)
