@@ -10,14 +10,6 @@ use std::fs::File;
 use std::io::Stderr;
 use std::process::ExitCode;
 
-fn whole_files() -> Most {
-    Most {
-        events: u64::MAX,
-        far: u64::MAX,
-        near: u64::MAX,
-    }
-}
-
 fn name_unread(
     err: Stderr,
     input: u8,
@@ -106,7 +98,7 @@ fn checked(rt: HostRuntime, events: &[u8], far: &[u8], near: &[u8], log: &[u8]) 
         rt.stdout(),
         &files,
         Some(&open.log),
-        whole_files(),
+        Most::whole_files(),
         Goal::Check(u64::MAX),
         told::watched(rt.stderr()),
     );

@@ -2,7 +2,7 @@
 // bytes of a read stand behind the others.
 #![tactic(auto)]
 
-ghost use Rattle.std.specs.Prelude.{◌≡◌, length};
+ghost use Rattle.std.specs.Prelude.{◌≡◌, ◌^◌, ◌-◌, length};
 ghost use Rattle.replay_inputs.specs.Inputs.{AllWithin, AllPassed, OneRead, WentOn, ended_at};
 
 use pipes::reason::Reason;
@@ -33,6 +33,19 @@ pub struct Most {
     pub events: u64,
     pub far: u64,
     pub near: u64,
+}
+
+impl Most {
+    // No file has more.
+    pub fn whole_files() -> Most
+        ensures { (result.events ≡ 2 ^ 64 - 1) × (result.far ≡ 2 ^ 64 - 1) × (result.near ≡ 2 ^ 64 - 1) }
+    {
+        Most {
+            events: u64::MAX,
+            far: u64::MAX,
+            near: u64::MAX,
+        }
+    }
 }
 
 fn least(a: u64, b: u64) -> u64 {

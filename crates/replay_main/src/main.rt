@@ -10,14 +10,6 @@ use std::fs::File;
 use std::io::Stderr;
 use std::process::ExitCode;
 
-fn whole_files() -> Most {
-    Most {
-        events: u64::MAX,
-        far: u64::MAX,
-        near: u64::MAX,
-    }
-}
-
 fn name_unread(err: Stderr, input: u8, why: Reason, events: &[u8], far: &[u8], near: &[u8]) {
     match input {
         1 => named::fail(err, b"replay", events, why),
@@ -82,7 +74,7 @@ fn replayed(rt: HostRuntime, events: &[u8], far: &[u8], near: &[u8]) -> u64 {
         rt.stdout(),
         &files,
         None,
-        whole_files(),
+        Most::whole_files(),
         Goal::Write(rt.stdout()),
         told::watched(rt.stderr()),
     );
