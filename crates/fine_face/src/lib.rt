@@ -10,6 +10,7 @@ use fine::{Fine, Lengths};
 use fine_words::answering;
 use units::Samples;
 
+// fine_handover_face has this function too: the contract of each cites the definition of its own face.
 fn judge(state: &[u64], values_fit: bool) -> u32
     ensures { result ≡ judged_fine state.now values_fit }
 {

@@ -25,6 +25,7 @@ pub extern "C" fn tmv_fine_transform_len(span: u32) -> u64
     lengths.transform
 }
 
+// fine_face has this function too: the contract of each cites the definition of its own face.
 fn judge(state: &[u64], values_fit: bool) -> u32
     ensures { result ≡ judged_run state.now values_fit }
 {

@@ -8,7 +8,7 @@ ghost use Rattle.ring_face.specs.Calls.{judged_ring, new_called, push_called, cl
 use ring::Ring;
 use ring_words::answering;
 
-// Judges the lengths. A ring has no setting that could be outside the table.
+// Judges the lengths. A ring has no setting that could be outside the table. ring_window_face has this function too: the contract of each cites the definition of its own face.
 fn judge(state: &[u64], values_fit: bool) -> u32
     ensures { result ≡ judged_ring state.now values_fit }
 {

@@ -12,7 +12,7 @@ use ring_words::answering;
 // How many values a window is lent a list for.
 const VALUES: usize = 2;
 
-// Judges the lengths. A ring has no setting that could be outside the table.
+// Judges the lengths. A ring has no setting that could be outside the table. ring_face has this function too: the contract of each cites the definition of its own face.
 fn judge(state: &[u64], values_fit: bool) -> u32
     ensures { result ≡ judged_ring state.now values_fit }
 {

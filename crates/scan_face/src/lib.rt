@@ -8,6 +8,7 @@ ghost use Rattle.scan_face.specs.Calls.{length_for, judged_scan, history_given, 
 
 use scan_words::{answering, loading, storing};
 
+// scan_handover_face has this function too: the contract of each cites the definition of its own face.
 fn judge(state: &[u64], values_fit: bool) -> u32
     ensures { result ≡ judged_scan state.now values_fit }
 {

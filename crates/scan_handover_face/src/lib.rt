@@ -13,6 +13,7 @@ use scan_words::{loading, storing};
 // How many values a run is lent a list for.
 const VALUES: usize = 1;
 
+// scan_face has this function too: the contract of each cites the definition of its own face.
 fn judge(state: &[u64], values_fit: bool) -> u32
     ensures { result ≡ judged_run state.now values_fit }
 {

@@ -25,7 +25,7 @@ impl Running {
     }
 }
 
-// A float that a file holds by its bits, in so many bytes.
+// A float that a file holds by its bits, in so many bytes. The two impls of this trait are alike but for the format: its width, and which functions of `floats::bits` read and write it.
 pub trait Stored: Copy {
     fn width() -> usize
         ensures { result ≤ 8 };

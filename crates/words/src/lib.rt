@@ -34,6 +34,7 @@ pub fn all_below(limit: u64, first: u64, second: u64, third: u64) -> bool
     first < limit && second < limit && third < limit
 }
 
+// It and `pattern32` stand apart as the functions of `floats::bits` that they call: the constants differ, and std has no trait of both types.
 pub fn pattern(old: u64, x: f64) -> u64
     ensures { result ≡ pattern_of binary64 old x }
 {
