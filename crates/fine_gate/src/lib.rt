@@ -88,10 +88,7 @@ fn fits_rescan(span: u32, due: Lengths, retained_len: usize, far_len: usize) -> 
     requires { due ≡ lengths_of span }
     ensures { result ≡ rescan_lengths span retained_len far_len }
 {
-    if !is_frame(span, due, retained_len) {
-        return false;
-    }
-    far_len as u64 == due.frame + span as u64
+    is_frame(span, due, retained_len) && far_len as u64 == due.frame + span as u64
 }
 
 // Tells whether a near frame, a retained frame and a far window have their lengths.
@@ -99,10 +96,7 @@ fn fits_gate(span: u32, due: Lengths, near_len: usize, retained_len: usize, far_
     requires { due ≡ lengths_of span }
     ensures { result ≡ gate_lengths span near_len retained_len far_len }
 {
-    if !is_frame(span, due, near_len) {
-        return false;
-    }
-    fits_rescan(span, due, retained_len, far_len)
+    is_frame(span, due, near_len) && fits_rescan(span, due, retained_len, far_len)
 }
 
 // ---- a near sample
@@ -110,15 +104,13 @@ fn fits_gate(span: u32, due: Lengths, near_len: usize, retained_len: usize, far_
 fn near_refusal(fine: Fine, near_len: usize, sample: f32) -> u8
     ensures { result ≡ near_refusal fine near_len sample }
 {
-    let lengths = fine.lengths;
-    let frames = fine.frames;
-    let due = Lengths::of(lengths.span);
-    let fitting = is_frame(lengths.span, due, near_len);
+    let due = Lengths::of(fine.lengths.span);
+    let fitting = is_frame(fine.lengths.span, due, near_len);
     let earlier = fine.first_refusals(due, fitting);
     if earlier != 0 {
         return earlier;
     }
-    if frames.len == lengths.frame {
+    if fine.frames.len == fine.lengths.frame {
         return answers::FRAME_WAITS;
     }
     if !floats::is_finite32(sample) {
@@ -131,16 +123,9 @@ fn took_one(fine: Fine) -> Took
     requires { fine.frames.len < fine.lengths.frame }
     ensures { result ≡ took_one fine }
 {
-    let lengths = fine.lengths;
-    let frames = fine.frames;
-    let len = frames.len + 1;
-    let longer = fine.with_frames(Frames {
-        len,
-        retained: frames.retained,
-        taken: frames.taken,
-        skipped: frames.skipped,
-    });
-    if len == lengths.frame {
+    let len = fine.frames.len + 1;
+    let longer = fine.with_frames(Frames { len, ..fine.frames });
+    if len == fine.lengths.frame {
         return Took {
             fine: longer,
             answer: Taking::Full,
@@ -156,7 +141,6 @@ fn took_one(fine: Fine) -> Took
 pub fn push_near(fine: Fine, near: &mut [f32], sample: f32) -> Took
     ensures { near_push result near.new ≡ pushed_near fine near.old sample }
 {
-    let frames = fine.frames;
     let refusal = near_refusal(fine, near.len(), sample);
     if refusal != 0 {
         return Took {
@@ -164,8 +148,7 @@ pub fn push_near(fine: Fine, near: &mut [f32], sample: f32) -> Took
             answer: Taking::Refused(refusal),
         };
     }
-    let at = frames.len as usize;
-    near[at] = sample;
+    near[fine.frames.len as usize] = sample;
     took_one(fine)
 }
 
@@ -175,11 +158,7 @@ pub fn push_near(fine: Fine, near: &mut [f32], sample: f32) -> Took
 fn skips(fine: Fine, missing_head: u64, missing_tail: u64) -> bool
     ensures { result ≡ Gate.skips fine missing_head missing_tail }
 {
-    let lengths = fine.lengths;
-    if missing_head > 0 {
-        return true;
-    }
-    missing_tail > lengths.frame / TAIL_DEFICIT_LIMIT_DEN
+    missing_head > 0 || missing_tail > fine.lengths.frame / TAIL_DEFICIT_LIMIT_DEN
 }
 
 // Sums the squares, in order.
@@ -197,10 +176,7 @@ fn energy(xs: &[f32]) -> f64
 fn silent(near: &[f32], far: &[f32]) -> bool
     ensures { result ≡ Gate.silent near.now far.now }
 {
-    if energy(near) < FRAME_ENERGY_FLOOR {
-        return true;
-    }
-    energy(far) < FRAME_ENERGY_FLOOR
+    energy(near) < FRAME_ENERGY_FLOOR || energy(far) < FRAME_ENERGY_FLOOR
 }
 
 fn judge(fine: Fine, near: &[f32], far: &[f32], missing_head: u64, missing_tail: u64) -> Passage
@@ -219,13 +195,7 @@ fn judge(fine: Fine, near: &[f32], far: &[f32], missing_head: u64, missing_tail:
 fn readable(fine: Fine, near: &[f32], far: &[f32], missing_head: u64, missing_tail: u64) -> bool
     ensures { result ≡ Gate.readable fine near.now far.now missing_head missing_tail }
 {
-    if skips(fine, missing_head, missing_tail) {
-        return true;
-    }
-    if !folds::all_finite(near) {
-        return false;
-    }
-    folds::all_finite(far)
+    skips(fine, missing_head, missing_tail) || folds::all_finite(near) && folds::all_finite(far)
 }
 
 fn gate_refusal(
@@ -238,15 +208,13 @@ fn gate_refusal(
 ) -> u8
     ensures { result ≡ gate_refusal fine near.now retained_len far.now missing_head missing_tail }
 {
-    let lengths = fine.lengths;
-    let frames = fine.frames;
-    let due = Lengths::of(lengths.span);
-    let fitting = fits_gate(lengths.span, due, near.len(), retained_len, far.len());
+    let due = Lengths::of(fine.lengths.span);
+    let fitting = fits_gate(fine.lengths.span, due, near.len(), retained_len, far.len());
     let earlier = fine.first_refusals(due, fitting);
     if earlier != 0 {
         return earlier;
     }
-    if frames.len != lengths.frame {
+    if fine.frames.len != fine.lengths.frame {
         return answers::NO_FULL_FRAME;
     }
     if !readable(fine, near, far, missing_head, missing_tail) {
@@ -263,20 +231,19 @@ fn consume(frames: Frames, passage: Passage) -> Frames
         Passage::Skipped => Frames {
             len: 0,
             retained: false,
-            taken: frames.taken,
             skipped: frames.skipped.saturating_add(1),
+            ..frames
         },
         Passage::Silent => Frames {
             len: 0,
             retained: false,
-            taken: frames.taken,
-            skipped: frames.skipped,
+            ..frames
         },
         Passage::Taken => Frames {
             len: 0,
             retained: true,
             taken: frames.taken.saturating_add(1),
-            skipped: frames.skipped,
+            ..frames
         },
     }
 }
@@ -298,10 +265,9 @@ fn gate_answer(frames: Frames, passage: Passage) -> GateAnswer
 fn passed(fine: Fine, passage: Passage) -> Gated
     ensures { result ≡ Gate.passed fine passage }
 {
-    let frames = fine.frames;
     Gated {
-        fine: fine.with_frames(consume(frames, passage)),
-        answer: gate_answer(frames, passage),
+        fine: fine.with_frames(consume(fine.frames, passage)),
+        answer: gate_answer(fine.frames, passage),
     }
 }
 
@@ -311,8 +277,7 @@ fn retain(passage: Passage, near: &[f32], retained: &mut [f32])
     ensures { retained.new ≡ Gate.retained_by passage near.now retained.old }
 {
     match passage {
-        Passage::Skipped => {}
-        Passage::Silent => {}
+        Passage::Skipped | Passage::Silent => {}
         Passage::Taken => retained.copy_from_slice(near),
     }
 }
@@ -351,15 +316,13 @@ fn rescan_refusal(
 ) -> u8
     ensures { result ≡ rescan_refusal fine retained.now far.now missing_head missing_tail }
 {
-    let lengths = fine.lengths;
-    let frames = fine.frames;
-    let due = Lengths::of(lengths.span);
-    let fitting = fits_rescan(lengths.span, due, retained.len(), far.len());
+    let due = Lengths::of(fine.lengths.span);
+    let fitting = fits_rescan(fine.lengths.span, due, retained.len(), far.len());
     let earlier = fine.first_refusals(due, fitting);
     if earlier != 0 {
         return earlier;
     }
-    if !frames.retained {
+    if !fine.frames.retained {
         return 0;
     }
     if !readable(fine, retained, far, missing_head, missing_tail) {
@@ -388,7 +351,6 @@ pub fn rescan(
 ) -> Rescanned
     ensures { result ≡ Gate.rescanned fine retained.now far.now missing_head missing_tail }
 {
-    let frames = fine.frames;
     let refusal = rescan_refusal(fine, retained, far, missing_head, missing_tail);
     if refusal != 0 {
         return Rescanned {
@@ -396,7 +358,7 @@ pub fn rescan(
             answer: RescanAnswer::Refused(refusal),
         };
     }
-    if !frames.retained {
+    if !fine.frames.retained {
         return Rescanned {
             fine,
             answer: RescanAnswer::NothingRetained,

@@ -32,8 +32,7 @@ pub struct Handed {
 fn judge(fine: Fine, near_len: usize) -> u8
     ensures { result ≡ first_refusals fine (is_frame (span_of fine) near_len) }
 {
-    let lengths = fine.lengths;
-    let due = Lengths::of(lengths.span);
+    let due = Lengths::of(fine.lengths.span);
     fine.first_refusals(due, near_len as u64 == due.frame)
 }
 
@@ -48,8 +47,6 @@ fn takes(fine: Fine, samples: usize) -> usize
 fn refusal(fine: Fine, near_len: usize, samples: &[f32]) -> u8
     ensures { result ≡ Handover.run_refusal fine near_len samples.now }
 {
-    let lengths = fine.lengths;
-    let frames = fine.frames;
     let earlier = judge(fine, near_len);
     if earlier != 0 {
         return earlier;
@@ -57,7 +54,7 @@ fn refusal(fine: Fine, near_len: usize, samples: &[f32]) -> u8
     if samples.len() == 0 {
         return 0;
     }
-    if frames.len == lengths.frame {
+    if fine.frames.len == fine.lengths.frame {
         return answers::FRAME_WAITS;
     }
     let end = takes(fine, samples.len());
@@ -80,16 +77,9 @@ fn answered(fine: Fine, n: usize) -> Handed
     requires { fine.frames.len + n ≤ fine.lengths.frame }
     ensures { result ≡ record { fine = longer_by fine n; answer = pick (full (longer_by fine n)) (RunTaking.Full n) (RunTaking.Taken n) } }
 {
-    let lengths = fine.lengths;
-    let frames = fine.frames;
-    let len = frames.len + n as u64;
-    let longer = fine.with_frames(Frames {
-        len,
-        retained: frames.retained,
-        taken: frames.taken,
-        skipped: frames.skipped,
-    });
-    if len == lengths.frame {
+    let len = fine.frames.len + n as u64;
+    let longer = fine.with_frames(Frames { len, ..fine.frames });
+    if len == fine.lengths.frame {
         return Handed {
             fine: longer,
             answer: RunTaking::Full(n),
@@ -119,8 +109,7 @@ pub fn push_near_run(fine: Fine, near: &mut [f32], samples: &[f32]) -> Handed
             answer: RunTaking::Taken(0),
         };
     }
-    let frames = fine.frames;
     let n = takes(fine, samples.len());
-    fill(near, frames.len as usize, samples, n);
+    fill(near, fine.frames.len as usize, samples, n);
     answered(fine, n)
 }

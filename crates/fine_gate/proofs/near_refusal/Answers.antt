@@ -7,14 +7,14 @@ pub returns-then-earlier-ne0 : goal.returns-then-earlier-ne0
 unfolding near_refusal
 returns-then-earlier-ne0 c = simp (picks, ← c.is_frame-fitting.ensures, ← c.first_refusals-earlier.ensures, ne_eqb _ _ c.if-earlier-ne0.true)
 
-pub returns-then-frames-lengths : goal.returns-then-frames-lengths
+pub returns-then-fine : goal.returns-then-fine
 unfolding near_refusal
-returns-then-frames-lengths c = simp (picks, ← c.is_frame-fitting.ensures, ← c.first_refusals-earlier.ensures, eq-eqb _ _ c.if-earlier-ne0.false, eq-eqb _ _ c.if-frames-lengths.true)
+returns-then-fine c = simp (picks, ← c.is_frame-fitting.ensures, ← c.first_refusals-earlier.ensures, eq-eqb _ _ c.if-earlier-ne0.false, eq-eqb _ _ c.if-fine.true)
 
 pub returns-then-not-is_finite32 : goal.returns-then-not-is_finite32
 unfolding near_refusal
-returns-then-not-is_finite32 c = simp (picks, ← c.is_frame-fitting.ensures, ← c.first_refusals-earlier.ensures, eq-eqb _ _ c.if-earlier-ne0.false, ne_eqb _ _ c.if-frames-lengths.false, ← c.is_finite32.ensures, c.if-not-is_finite32.true)
+returns-then-not-is_finite32 c = simp (picks, ← c.is_frame-fitting.ensures, ← c.first_refusals-earlier.ensures, eq-eqb _ _ c.if-earlier-ne0.false, ne_eqb _ _ c.if-fine.false, ← c.is_finite32.ensures, c.if-not-is_finite32.true)
 
 pub returns : goal.returns
 unfolding near_refusal
-returns c = simp (picks, ← c.is_frame-fitting.ensures, ← c.first_refusals-earlier.ensures, eq-eqb _ _ c.if-earlier-ne0.false, ne_eqb _ _ c.if-frames-lengths.false, ← c.is_finite32.ensures, c.if-not-is_finite32.false)
+returns c = simp (picks, ← c.is_frame-fitting.ensures, ← c.first_refusals-earlier.ensures, eq-eqb _ _ c.if-earlier-ne0.false, ne_eqb _ _ c.if-fine.false, ← c.is_finite32.ensures, c.if-not-is_finite32.false)

@@ -8,11 +8,11 @@ pub returns-then-refusal-ne0 : goal.returns-then-refusal-ne0
 unfolding pushed_near
 returns-then-refusal-ne0 c = simp (picks, ← c.near_refusal-refusal.ensures, ne_eqb _ _ c.if-refusal-ne0.true)
 
-pub offset_bounds-near-at : goal.offset_bounds-near-at
-offset_bounds-near-at c = omega (arith, place c.args.fine _ _ _ c.near_refusal-refusal.ensures c.if-refusal-ne0.false, c.well_formed.1.0.1)
+pub offset_bounds-near-fine : goal.offset_bounds-near-fine
+offset_bounds-near-fine c = omega (arith, place c.args.fine _ _ _ c.near_refusal-refusal.ensures c.if-refusal-ne0.false, c.well_formed.1.0.1)
 
-pub bounds-near-at : goal.bounds-near-at
-bounds-near-at c = place c.args.fine _ _ _ c.near_refusal-refusal.ensures c.if-refusal-ne0.false
+pub bounds-near-fine : goal.bounds-near-fine
+bounds-near-fine c = place c.args.fine _ _ _ c.near_refusal-refusal.ensures c.if-refusal-ne0.false
 
 pub took_one-requires : goal.took_one-requires
 took_one-requires c = room c.args.fine _ _ _ c.near_refusal-refusal.ensures c.if-refusal-ne0.false

@@ -2,9 +2,9 @@ use Rattle.answers.proofs.Cases.{cases}
 use Rattle.fine_gate.specs.Gate.{took_one}
 use Rattle.fine_gate.proofs.took_one.Goals as goal
 
-pub returns-then-len-lengths : goal.returns-then-len-lengths
+pub returns-then-len-fine : goal.returns-then-len-fine
 unfolding took_one
-returns-then-len-lengths c = search (cases, c.with_frames-longer.ensures)
+returns-then-len-fine c = search (cases, c.with_frames-longer.ensures)
 
 pub returns : goal.returns
 unfolding took_one

@@ -15,9 +15,9 @@ pub returns-then-samples-eq0 : goal.returns-then-samples-eq0
 unfolding run_refusal
 returns-then-samples-eq0 c = search (cases, ← c.judge-earlier.ensures)
 
-pub returns-then-frames-lengths : goal.returns-then-frames-lengths
+pub returns-then-fine : goal.returns-then-fine
 unfolding run_refusal
-returns-then-frames-lengths c = search (cases, ← c.judge-earlier.ensures)
+returns-then-fine c = search (cases, ← c.judge-earlier.ensures)
 
 pub slice_bounds-all_finite-end : goal.slice_bounds-all_finite-end
 slice_bounds-all_finite-end c =
@@ -26,8 +26,8 @@ slice_bounds-all_finite-end c =
 
 pub returns-then-not-all_finite : goal.returns-then-not-all_finite
 unfolding run_refusal
-returns-then-not-all_finite c = simp (picks, ← c.judge-earlier.ensures, eq-eqb _ _ c.if-earlier-ne0.false, ne_eqb _ _ c.if-samples-eq0.false, ne_eqb _ _ c.if-frames-lengths.false, ← c.takes-end.ensures, ← c.all_finite.ensures, c.if-not-all_finite.true)
+returns-then-not-all_finite c = simp (picks, ← c.judge-earlier.ensures, eq-eqb _ _ c.if-earlier-ne0.false, ne_eqb _ _ c.if-samples-eq0.false, ne_eqb _ _ c.if-fine.false, ← c.takes-end.ensures, ← c.all_finite.ensures, c.if-not-all_finite.true)
 
 pub returns : goal.returns
 unfolding run_refusal
-returns c = simp (picks, ← c.judge-earlier.ensures, eq-eqb _ _ c.if-earlier-ne0.false, ne_eqb _ _ c.if-samples-eq0.false, ne_eqb _ _ c.if-frames-lengths.false, ← c.takes-end.ensures, ← c.all_finite.ensures, c.if-not-all_finite.false)
+returns c = simp (picks, ← c.judge-earlier.ensures, eq-eqb _ _ c.if-earlier-ne0.false, ne_eqb _ _ c.if-samples-eq0.false, ne_eqb _ _ c.if-fine.false, ← c.takes-end.ensures, ← c.all_finite.ensures, c.if-not-all_finite.false)
