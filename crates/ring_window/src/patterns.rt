@@ -14,6 +14,7 @@ fn copy(window: &mut [u32], to: usize, buf: &[u32], slot: usize, n: usize)
     window[to..to + n].copy_from_slice(&buf[slot..slot + n]);
 }
 
+// The same stands in values.rt: patterns are copied as a block, floats are made one by one. One function would take a closure for that, and its contract one more fact about it.
 pub fn fill(window: &mut [u32], buf: &[u32], c: Cut)
     requires { Fitting (length buf.now) (length window.old) c }
     ensures { window.new ≡ pieces c buf.now }

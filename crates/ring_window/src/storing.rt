@@ -16,7 +16,7 @@ fn after(slot: usize, capacity: usize) -> usize
     slot + 1
 }
 
-// Writes the samples to their slots, from absolute index `next` on.
+// Writes the samples to their slots, from absolute index `next` on. The ring's own stores patterns as they are: one function would take a closure for the pattern of a float.
 pub fn store_all(buf: &mut [u32], next: u64, samples: &[f32])
     requires { (0 < length buf.old) × (next + length samples.now ≤ limit) }
     ensures { buf.new ≡ stored next buf.old (map (to_bits binary32) samples.now) }
