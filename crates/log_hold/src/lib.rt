@@ -121,7 +121,7 @@ pub struct Found {
     pub stands: Stands,
 }
 
-// Reads on until what stands next is known.
+// Reads on until what stands next is known: no index is counted, so a `for` would be no plainer.
 fn seek(log: Window, due: Option<Line>, from: Option<&File>, room: &mut [u8]) -> Found
     requires { (Within log) × (length room.old ≡ 65536) }
     ensures { (Sought due log room.old result.log room.new result.stands) × (wanting result.stands ≡ false) }
@@ -143,7 +143,7 @@ fn after(check: Check, due: Option<Line>, log: Window, stands: Stands) -> Check
     match stands {
         Stands::Right(n) => Check {
             log: window::past(log, n),
-            line: answers::next_long_count(check.line),
+            line: check.line.saturating_add(1),
             verdict: Verdict::Going,
         },
         Stands::Wrong => Check {

@@ -99,6 +99,7 @@ pub fn put_numbers(out: &mut [u8], at: usize, words: &[u8], m: u64, more: &[u8],
     put_number(out, next, more, n)
 }
 
+// Lines are written by hand: the room is fixed and there is no heap, std says which bytes `write!` writes for a String alone, and `text_of` names each byte.
 fn put_word(out: &mut [u8], at: usize, word: Word) -> usize
     requires { at + 49 ≤ length out.old }
     ensures { Put out.old at (word_text word) out.new result }

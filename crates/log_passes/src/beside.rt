@@ -36,7 +36,7 @@ fn beside_texts(
 {
     if log_text::same_text(first, second) {
         return Beside {
-            place: answers::next_long_count(place),
+            place: place.saturating_add(1),
             ask: Ask::Goes(first_used, second_used),
         };
     }

@@ -46,7 +46,7 @@ fn judged_as(judging: Judging, used: usize, n: usize, judged: Option<Judged>) ->
             judging: Judging {
                 frames: good.frames,
                 cycles: good.cycles,
-                place: answers::next_long_count(judging.place),
+                place: judging.place.saturating_add(1),
             },
             look: Look::Goes(used),
         },

@@ -159,7 +159,7 @@ fn mark(tally: Tally, x: Option<Line>, y: Option<Line>) -> Tally
         second: y,
     };
     Tally {
-        count: answers::next_long_count(tally.count),
+        count: tally.count.saturating_add(1),
         first: tally.first.or(Some(difference)),
     }
 }
@@ -190,17 +190,16 @@ fn pass_of(first: Held, second: Held, tally: Tally) -> Pass
 fn first_sought(pass: Pass, found: Found) -> Step
     ensures { result ≡ first_sought pass found }
 {
-    let second = pass.second;
-    let tally = pass.tally;
     match found {
-        Found::Here(line, n) => step_of(
-            pass_of(Held::Has(Some(line)), second, tally),
-            n,
-            0,
-            Need::Goes,
-        ),
+        Found::Here(line, n) => {
+            let first = Held::Has(Some(line));
+            step_of(Pass { first, ..pass }, n, 0, Need::Goes)
+        }
         Found::Other(n) => step_of(pass, n, 0, Need::Goes),
-        Found::Nothing => step_of(pass_of(Held::Has(None), second, tally), 0, 0, Need::Goes),
+        Found::Nothing => {
+            let first = Held::Has(None);
+            step_of(Pass { first, ..pass }, 0, 0, Need::Goes)
+        }
         Found::Wants => step_of(pass, 0, 0, Need::WantsFirst),
         Found::Strange => step_of(pass, 0, 0, Need::Strange),
     }
@@ -209,17 +208,16 @@ fn first_sought(pass: Pass, found: Found) -> Step
 fn second_sought(pass: Pass, found: Found) -> Step
     ensures { result ≡ second_sought pass found }
 {
-    let first = pass.first;
-    let tally = pass.tally;
     match found {
-        Found::Here(line, n) => step_of(
-            pass_of(first, Held::Has(Some(line)), tally),
-            0,
-            n,
-            Need::Goes,
-        ),
+        Found::Here(line, n) => {
+            let second = Held::Has(Some(line));
+            step_of(Pass { second, ..pass }, 0, n, Need::Goes)
+        }
         Found::Other(n) => step_of(pass, 0, n, Need::Goes),
-        Found::Nothing => step_of(pass_of(first, Held::Has(None), tally), 0, 0, Need::Goes),
+        Found::Nothing => {
+            let second = Held::Has(None);
+            step_of(Pass { second, ..pass }, 0, 0, Need::Goes)
+        }
         Found::Wants => step_of(pass, 0, 0, Need::WantsSecond),
         Found::Strange => step_of(pass, 0, 0, Need::Strange),
     }

@@ -2,6 +2,8 @@
 // is what a host comes to that holds the bytes which the reads brought, in their order.
 #![tactic(auto)]
 
+// The three modules each have a loop `all`: one over a trait would be no plainer, for each promises walks of its own (JudgeWalked, OrderWalked, CountWalked) and lends other rooms.
+
 pub mod inputs; // the two logs
 pub mod judge; // is each a log
 pub mod order; // are they the same

@@ -61,17 +61,17 @@ fn turn(sort: Sort, walk: Walk, logs: &Logs<'_>, first: &mut [u8], second: &mut 
     requires { (BothWithin walk.inputs) × (length first.old ≡ 65536) × (length second.old ≡ 65536) }
     ensures { CountTurned sort walk first.old second.old result first.new second.new }
 {
-    let before = walk.inputs;
-    let passed = walk.pass;
-    let step = ask(sort, passed, before, first, second);
-    let pass = step.pass;
-    let need = step.need;
-    let wanted = read_on(need);
+    let Step {
+        pass,
+        first_used,
+        second_used,
+        need,
+    } = ask(sort, walk.pass, walk.inputs, first, second);
     let inputs = inputs::go_on(
-        before,
-        step.first_used,
-        step.second_used,
-        wanted,
+        walk.inputs,
+        first_used,
+        second_used,
+        read_on(need),
         logs,
         first,
         second,

@@ -20,7 +20,7 @@ pub fn with_frame(session: Session, scan: Scan) -> Session
 {
     Session {
         scan,
-        frames: answers::next_long_count(session.frames),
+        frames: session.frames.saturating_add(1),
         ..session
     }
 }

@@ -52,7 +52,7 @@ pub fn cycle_line(event: u32, cycle: u64, verdict: Verdict) -> Line
 pub fn cycles_after(cycle: u64, verdict: Verdict) -> u64
     ensures { result ≡ cycles_after cycle verdict }
 {
-    let next = answers::next_long_count(cycle);
+    let next = cycle.saturating_add(1);
     match verdict {
         Verdict::Refused(_) => cycle,
         Verdict::Hold => next,

@@ -159,7 +159,7 @@ fn near_line(
     let one = sample(
         event, reached, x, index, envelope, levels, window, prefix, squares, scores, lag_sums,
     );
-    cut_behind(one, answers::next_long_count(index), samples.len() - i - 1)
+    cut_behind(one, index.saturating_add(1), samples.len() - i - 1)
 }
 
 // The first n samples that the bytes hold.

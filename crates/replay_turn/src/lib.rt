@@ -43,10 +43,11 @@ pub fn turn(
     requires { Holds far.now samples.old × Holds near.now samples.old }
     ensures { gives result (lent envelope.new levels.new window.new prefix.new squares.new scores.new lag_sums.new) ≡ Stream.turn header place (lent envelope.old levels.old window.old prefix.old squares.old scores.old lag_sums.old) (hand_of events.now far.now near.now ended) }
 {
-    let session = place.session;
-    let stage = place.stage;
-    let number = place.number;
-    let form = header.form;
+    let Place {
+        number,
+        stage,
+        session,
+    } = place;
     match stage {
         Stage::Opening => stands(
             number,
@@ -64,12 +65,25 @@ pub fn turn(
             stands(number, Stage::Closed, session, Answer::Says(line))
         }
         Stage::Midway { event, index, left } => {
-            if lacks(form, near, left) {
+            if lacks(header.form, near, left) {
                 return stands(number, stage, session, Answer::Wants(Input::NearSide));
             }
             near::near_turn(
-                form, number, event, index, left, session, near, samples, envelope, levels, window,
-                prefix, squares, scores, lag_sums,
+                header.form,
+                number,
+                event,
+                index,
+                left,
+                session,
+                near,
+                samples,
+                envelope,
+                levels,
+                window,
+                prefix,
+                squares,
+                scores,
+                lag_sums,
             )
         }
         Stage::Closed => stands(number, Stage::Closed, session, Answer::Over),

@@ -19,4 +19,4 @@ shape_of-levels c =
 
 pub returns : goal.returns
 returns c =
-    let a = c.args in rw (c.cut_behind.ensures, c.next_long_count.ensures) (one_more a.event a.session c.pass-passed.result.session (lent a.envelope.now a.levels.now a.window.now a.prefix.now a.squares.now a.scores.now a.lag_sums.now) a.samples.now a.first c.pass-passed.result.index c.pass-passed.result.count _ (omega (arith, c.ranges)) c.pass-passed.ensures.session c.pass-passed.ensures.count c.pass-passed.ensures.index c.pass-passed.ensures.levels _ c.if-i-samples.false c.sample-one.result _ c.sample-one.ensures)
+    let a = c.args in rw (c.cut_behind.ensures, c.saturating_add.ensures) (one_more a.event a.session c.pass-passed.result.session (lent a.envelope.now a.levels.now a.window.now a.prefix.now a.squares.now a.scores.now a.lag_sums.now) a.samples.now a.first c.pass-passed.result.index c.pass-passed.result.count _ (omega (arith, c.ranges)) c.pass-passed.ensures.session c.pass-passed.ensures.count c.pass-passed.ensures.index c.pass-passed.ensures.levels _ c.if-i-samples.false c.sample-one.result _ c.sample-one.ensures)

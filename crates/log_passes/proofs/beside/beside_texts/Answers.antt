@@ -5,7 +5,7 @@ use Rattle.log_passes.proofs.beside.beside_texts.Goals as goal
 
 pub returns-then-same_text : goal.returns-then-same_text
 unfolding beside_texts
-returns-then-same_text c = search (cases, ← c.same_text.ensures, ← c.next_long_count.ensures)
+returns-then-same_text c = search (cases, ← c.same_text.ensures, ← c.saturating_add.ensures)
 
 pub returns : goal.returns
 unfolding beside_texts

@@ -4,7 +4,7 @@ use Rattle.log_passes.proofs.judging.judged_as.Goals as goal
 
 pub returns-in-Some : goal.returns-in-Some
 unfolding judged_as
-returns-in-Some c = rw (c.in-Some.is, ← c.next_long_count.ensures)
+returns-in-Some c = rw (c.in-Some.is, ← c.saturating_add.ensures)
 
 pub returns-in-None : goal.returns-in-None
 unfolding judged_as

@@ -4,7 +4,7 @@ use Rattle.log_passes.proofs.passing.first_sought.Goals as goal
 
 pub returns-in-Here : goal.returns-in-Here
 unfolding first_sought
-returns-in-Here c = rw (c.in-Here.is, ← c.pass_of.ensures) c.step_of.ensures
+returns-in-Here c = rw c.in-Here.is c.step_of.ensures
 
 pub returns-in-Other : goal.returns-in-Other
 unfolding first_sought
@@ -12,7 +12,7 @@ returns-in-Other c = rw c.in-Other.is c.step_of-in-Other.ensures
 
 pub returns-in-Nothing : goal.returns-in-Nothing
 unfolding first_sought
-returns-in-Nothing c = rw (c.in-Nothing.is, ← c.pass_of-in-Nothing.ensures) c.step_of-in-Nothing.ensures
+returns-in-Nothing c = rw c.in-Nothing.is c.step_of-in-Nothing.ensures
 
 pub returns-in-Wants : goal.returns-in-Wants
 unfolding first_sought

@@ -5,4 +5,4 @@ use Rattle.log_passes.proofs.passing.mark.Goals as goal
 
 pub returns : goal.returns
 unfolding marked
-returns c = rw (← c.next_long_count.ensures, ← first_or, c.or.ensures)
+returns c = rw (← c.saturating_add.ensures, ← first_or, c.or.ensures)

@@ -2,4 +2,4 @@
 use Rattle.replay.proofs.events.with_frame.Goals as goal
 
 pub returns : goal.returns
-returns c = rw c.next_long_count.ensures
+returns c = rw c.saturating_add.ensures
