@@ -56,7 +56,7 @@ fn judged(j: Judging, side: Side, used: Used) -> Judging
 {
     Judging {
         side,
-        number: answers::next_count(j.number),
+        number: j.number.saturating_add(1),
         used,
         lacks: false,
     }

@@ -39,7 +39,7 @@ fn taken(err: Stderr, name: &[u8], file: File, sound: Sound, asked: u64) -> Opti
 fn judged(err: Stderr, name: &[u8], file: File, length: u64, asked: u64) -> Option<Source> {
     let mut head = rooms::large();
     let n = rooms::fill(Some(&file), &mut head);
-    if (n as u64) < answers::smaller(length, 65536) {
+    if (n as u64) < length.min(65536) {
         words::tell(err, name, b"it could not be read to its end");
         return None;
     }

@@ -18,10 +18,7 @@ fn behind(head: Window, most: u64, room: &[u8]) -> Window
     let at = head.at;
     let end = head.end;
     let whole = recording::header_length(&room[at..end]) as u64;
-    window::allow(
-        head,
-        answers::saturating_sub(answers::smaller(most, whole), 24),
-    )
+    window::allow(head, most.min(whole).saturating_sub(24))
 }
 
 // Reads the header at the start of the events, which are at most so many bytes.
@@ -29,7 +26,7 @@ pub fn read(events: Option<&File>, most: u64, room: &mut [u8]) -> Window
     requires { length room.old ≡ 65536 }
     ensures { Within result }
 {
-    let first = window::read_all(window::fresh(answers::smaller(most, 24)), events, room);
+    let first = window::read_all(window::fresh(most.min(24)), events, room);
     let more = behind(first, most, room);
     window::read_all(more, events, room)
 }

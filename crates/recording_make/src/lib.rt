@@ -141,7 +141,7 @@ fn piece_from(rate: u32, samples: u32, used: u64) -> u32
     requires { used < samples }
     ensures { result ≡ piece_from rate samples used }
 {
-    answers::smaller(rate as u64 / 100, samples as u64 - used) as u32
+    (rate as u64 / 100).min(samples as u64 - used) as u32
 }
 
 fn fars_turn(h: Header, used: Used) -> bool

@@ -80,7 +80,7 @@ const DATA: u32 = 0x6174_6164;
 fn head_length(head: &[u8]) -> usize
     ensures { result ≡ head_length head.now }
 {
-    answers::smaller(head.len() as u64, HEAD as u64) as usize
+    head.len().min(HEAD)
 }
 
 fn behind(head: &[u8], at: usize) -> usize
@@ -297,7 +297,7 @@ pub fn take_channel(kind: Kind, channels: u16, channel: u16, frames: &[u8], out:
     }
     let width = width_of(kind) as usize;
     let frame = frame_of(kind, channels) as usize;
-    let n = answers::smaller((frames.len() / frame) as u64, (out.len() / width) as u64) as usize;
+    let n = (frames.len() / frame).min(out.len() / width);
     copy_channel(
         width,
         frame,

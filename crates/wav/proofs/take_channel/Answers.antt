@@ -28,14 +28,14 @@ overflow_mul-width c =
 pub overflow_mul-width-2 : goal.overflow_mul-width-2
 overflow_mul-width-2 c =
     let a = c.args in
-    omega (arith, (reachable a.kind a.channels a.channel a.frames.now a.out.now _ _ _ c.width_of-width.ensures c.frame_of-frame.ensures c.if-channels-channel.false c.smaller-n.ensures).fits)
+    omega (arith, (reachable a.kind a.channels a.channel a.frames.now a.out.now _ _ _ c.width_of-width.ensures c.frame_of-frame.ensures c.if-channels-channel.false c.min-n.ensures).fits)
 
 pub copy_channel-requires : goal.copy_channel-requires
 copy_channel-requires c =
     let a = c.args in
-    reachable a.kind a.channels a.channel a.frames.now a.out.now _ _ _ c.width_of-width.ensures c.frame_of-frame.ensures c.if-channels-channel.false c.smaller-n.ensures
+    reachable a.kind a.channels a.channel a.frames.now a.out.now _ _ _ c.width_of-width.ensures c.frame_of-frame.ensures c.if-channels-channel.false c.min-n.ensures
 
 pub returns : goal.returns
 returns c =
     let a = c.args in
-    all_taken a.kind a.channels a.channel a.frames.now a.out.now _ _ _ c.width_of-width.ensures c.frame_of-frame.ensures c.if-channels-channel.false c.smaller-n.ensures _ c.copy_channel.ensures
+    all_taken a.kind a.channels a.channel a.frames.now a.out.now _ _ _ c.width_of-width.ensures c.frame_of-frame.ensures c.if-channels-channel.false c.min-n.ensures _ c.copy_channel.ensures
