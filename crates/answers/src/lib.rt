@@ -1,10 +1,10 @@
-// What every crate shares: refusal numbers, limits, the answers that say nothing of a state, and helpers on numbers that the Rust takes from its library.
+// What every crate shares: refusal numbers, limits, the answers that say nothing of a state, and the allowed settings.
 #![tactic(auto)]
 
-ghost use Rattle.std.specs.Prelude.{◌≡◌, ◌-◌, min, max};
+ghost use Rattle.std.specs.Prelude.{◌≡◌};
 ghost use Rattle.answers.specs.Answers.{changing, counted, flagged};
 ghost use Rattle.answers.specs.Numbers;
-ghost use Rattle.answers.specs.Numbers.{apart, next_count, next_long_count, allowed_rate, allowed_ceiling, allowed_span};
+ghost use Rattle.answers.specs.Numbers.{allowed_rate, allowed_ceiling, allowed_span};
 
 // Rate, ceiling or fine span outside the table.
 pub const OUTSIDE_TABLE: u8 = 1;
@@ -86,45 +86,6 @@ impl Flag {
         }
         Flag::Is(is)
     }
-}
-
-// |a - b|
-pub fn abs_diff(a: u64, b: u64) -> u64
-    ensures { result ≡ apart a b }
-{
-    if a < b { b - a } else { a - b }
-}
-
-// a - b, or 0
-pub fn saturating_sub(a: u64, b: u64) -> u64
-    ensures { result ≡ a - b }
-{
-    if a < b { 0 } else { a - b }
-}
-
-pub fn smaller(a: u64, b: u64) -> u64
-    ensures { result ≡ min a b }
-{
-    if a < b { a } else { b }
-}
-
-pub fn larger(a: u64, b: u64) -> u64
-    ensures { result ≡ max a b }
-{
-    if a < b { b } else { a }
-}
-
-// One more, or the largest count.
-pub fn next_count(n: u32) -> u32
-    ensures { result ≡ next_count n }
-{
-    if n < 0xffff_ffff { n + 1 } else { n }
-}
-
-pub fn next_long_count(n: u64) -> u64
-    ensures { result ≡ next_long_count n }
-{
-    if n < 0xffff_ffff_ffff_ffff { n + 1 } else { n }
 }
 
 // lo to hi, both counted.
