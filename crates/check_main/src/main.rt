@@ -3,28 +3,21 @@
 
 use pipes::reason::Reason;
 use pipes::{named, rooms, told};
-use replay_close::Outcome;
+use replay_close::{Failure, Found};
 use replay_inputs::{Files, Most};
 use replay_sink::Goal;
+use replay_stream::Input;
 use std::fs::File;
 use std::io::Stderr;
 use std::process::ExitCode;
 
-fn name_unread(
-    err: Stderr,
-    input: u8,
-    why: Reason,
-    events: &[u8],
-    far: &[u8],
-    near: &[u8],
-    log: &[u8],
-) {
-    match input {
-        1 => named::fail(err, b"check", events, why),
-        2 => named::fail(err, b"check", far, why),
-        3 => named::fail(err, b"check", near, why),
-        _ => named::fail(err, b"check", log, why),
-    }
+fn name_unread(err: Stderr, input: Input, why: Reason, events: &[u8], far: &[u8], near: &[u8]) {
+    let name = match input {
+        Input::Entries => events,
+        Input::FarSide => far,
+        Input::NearSide => near,
+    };
+    named::fail(err, b"check", name, why);
 }
 
 // A reader that has gone away has had what it wanted: the status is then that of a program that SIGPIPE ended.
@@ -40,22 +33,25 @@ fn unwritten(err: Stderr, why: Reason) -> u64 {
 // reads the verdict any more.
 fn status_of(
     err: Stderr,
-    outcome: Outcome,
+    outcome: Result<Found, Failure>,
     events: &[u8],
     far: &[u8],
     near: &[u8],
     log: &[u8],
 ) -> u64 {
     match outcome {
-        Outcome::Done => 0,
-        Outcome::Amiss => 0,
-        Outcome::Wrong => 3,
-        Outcome::Unread(input, why) => {
-            name_unread(err, input, why, events, far, near, log);
+        Ok(Found::Clean | Found::Amiss) => 0,
+        Ok(Found::Wrong) => 3,
+        Err(Failure::Unread(input, why)) => {
+            name_unread(err, input, why, events, far, near);
             1
         }
-        Outcome::Unwritten(why) => unwritten(err, why),
-        Outcome::Broken => {
+        Err(Failure::UnreadLog(why)) => {
+            named::fail(err, b"check", log, why);
+            1
+        }
+        Err(Failure::Unwritten(why)) => unwritten(err, why),
+        Err(Failure::Broken) => {
             named::say(err, b"check", b"the library's answer fits no recording");
             1
         }

@@ -12,35 +12,42 @@ use pipes::reason::Reason;
 use pipes::told::Watch;
 use pipes::{reason, told, window};
 use replay_sink::Sink;
-use replay_stream::Answer;
+use replay_stream::{Answer, Input};
 use std::fs::File;
 use std::io::Stdout;
 
-// How a replay ended. Done: the log is out, or was found right. Amiss: it is out, and has a refusal or a `bad` line. Wrong: the log that was checked is wrong. Unread: a read of
-// input 1 (events), 2 (far samples), 3 (near samples) or 4 (the log) failed, and why. Unwritten: a write failed, and why. Broken: the library's answer fits no recording, which its theorems rule out.
+// What a replay came to. Clean: the log is out, or was found right. Amiss: it is out, and has a refusal or a `bad` line. Wrong: the log that was checked is wrong.
 #[derive(Clone, Copy)]
-pub enum Outcome {
-    Done,
+pub enum Found {
+    Clean,
     Amiss,
     Wrong,
-    Unread(u8, Reason),
+}
+
+// Why it came to nothing. Unread: a read of this input failed. UnreadLog: a read of the log that is checked did. Unwritten: a write failed. Broken: the library's answer fits no recording, which
+// its theorems rule out.
+#[derive(Clone, Copy)]
+pub enum Failure {
+    Unread(Input, Reason),
+    UnreadLog(Reason),
     Unwritten(Reason),
     Broken,
 }
 
 // ---- what it came to
 
-fn outcome_of_text(text: Text, over: bool) -> Outcome {
+fn found_in_text(text: Text, over: bool) -> Result<Found, Failure> {
     if !text.good {
-        return Outcome::Unwritten(text.reason);
+        return Err(Failure::Unwritten(text.reason));
     }
     if !over {
-        return Outcome::Broken;
+        return Err(Failure::Broken);
     }
-    if text.amiss {
-        return Outcome::Amiss;
-    }
-    Outcome::Done
+    Ok(if text.amiss {
+        Found::Amiss
+    } else {
+        Found::Clean
+    })
 }
 
 fn write_first(out: Stdout, n: usize, text: &[u8], watched: Watch) -> Result<(), Reason> {
@@ -60,10 +67,8 @@ fn say_in(
     watched: Watch,
     text: &mut [u8],
 ) -> Result<(), Reason> {
-    match log_says::write_verdict(line, verdict, hand, ended, text) {
-        None => Err(reason::none()),
-        Some(n) => write_first(out, n, text, watched),
-    }
+    let n = log_says::write_verdict(line, verdict, hand, ended, text).ok_or(reason::none())?;
+    write_first(out, n, text, watched)
 }
 
 // The same of a window's bytes.
@@ -86,34 +91,34 @@ fn say(out: Stdout, check: Check, watched: Watch, room: &[u8]) -> Result<(), Rea
     )
 }
 
-fn said(done: Result<(), Reason>, outcome: Outcome) -> Outcome {
-    match done {
-        Ok(()) => outcome,
-        Err(why) => Outcome::Unwritten(why),
-    }
-}
-
 // A log that could not be read has no verdict.
-fn outcome_of_check(out: Stdout, check: Check, watched: Watch, room: &[u8]) -> Outcome
+fn found_by_check(out: Stdout, check: Check, watched: Watch, room: &[u8]) -> Result<Found, Failure>
     requires { (Within check.log) × (length room.now ≡ 65536) }
 {
     if let Some(why) = check.log.failed {
-        return Outcome::Unread(4, why);
+        return Err(Failure::UnreadLog(why));
     }
-    let verdict = check.verdict;
-    match verdict {
-        Verdict::Going => Outcome::Broken,
-        Verdict::Accepted => said(say(out, check, watched, room), Outcome::Done),
-        Verdict::Wrong(_due) => said(say(out, check, watched, room), Outcome::Wrong),
-    }
+    let found = match check.verdict {
+        Verdict::Going => return Err(Failure::Broken),
+        Verdict::Accepted => Found::Clean,
+        Verdict::Wrong(_) => Found::Wrong,
+    };
+    say(out, check, watched, room).map_err(Failure::Unwritten)?;
+    Ok(found)
 }
 
-fn outcome_of(out: Stdout, sink: Sink, over: bool, watched: Watch, room: &[u8]) -> Outcome
+fn found_by(
+    out: Stdout,
+    sink: Sink,
+    over: bool,
+    watched: Watch,
+    room: &[u8],
+) -> Result<Found, Failure>
     requires { Fits sink room.now }
 {
     match sink {
-        Sink::Writes(text) => outcome_of_text(text, over),
-        Sink::Checks(check) => outcome_of_check(out, check, watched, room),
+        Sink::Writes(text) => found_in_text(text, over),
+        Sink::Checks(check) => found_by_check(out, check, watched, room),
     }
 }
 
@@ -121,20 +126,19 @@ fn outcome_of(out: Stdout, sink: Sink, over: bool, watched: Watch, room: &[u8]) 
 pub fn closed(
     out: Stdout,
     sink: Sink,
-    unread: u8,
-    why: Reason,
+    unread: Option<(Input, Reason)>,
     over: bool,
     watched: Watch,
     log: Option<&File>,
     room: &mut [u8],
-) -> Outcome
+) -> Result<Found, Failure>
     requires { Fits sink room.old }
 {
     let last = replay_sink::finish(sink, over, log, room);
-    if unread != 0 {
-        return Outcome::Unread(unread, why);
+    if let Some((input, why)) = unread {
+        return Err(Failure::Unread(input, why));
     }
-    outcome_of(out, last, over, watched, room)
+    found_by(out, last, over, watched, room)
 }
 
 // A log of the one line `bad header`.
@@ -144,9 +148,9 @@ pub fn unopened(
     watched: Watch,
     log: Option<&File>,
     room: &mut [u8],
-) -> Outcome
+) -> Result<Found, Failure>
     requires { Fits sink room.old }
 {
     let one = replay_sink::take(sink, Answer::Says(Line::BadHeader), log, room);
-    closed(out, one, 0, reason::none(), true, watched, log, room)
+    closed(out, one, None, true, watched, log, room)
 }

@@ -9,9 +9,10 @@ ghost use Rattle.replay_sink.specs.Sink.{Fits, FitsAny};
 use pipes::rooms;
 use pipes::told::Watch;
 use recording::Header;
-use replay_close::Outcome;
+use replay_close::{Failure, Found};
 use replay_inputs::{Files, Inputs, Most};
 use replay_sink::{Goal, Sink};
+use replay_stream::Input;
 use scan_calls::rules;
 use std::fs::File;
 use std::io::Stdout;
@@ -19,7 +20,7 @@ use std::io::Stdout;
 fn least(a: u64, b: usize) -> usize
     ensures { result ≤ b }
 {
-    if a < (b as u64) { a as usize } else { b }
+    a.min(b as u64) as usize
 }
 
 // The buffers are long enough for every rate and ceiling. Each is lent as far as the header asks.
@@ -42,7 +43,7 @@ fn sized(
     scores: &mut [f64],
     lag_sums: &mut [f64],
     room: &mut [u8],
-) -> Outcome
+) -> Result<Found, Failure>
     requires { (AllWithin inputs) × (length events.old ≡ 65536) × (length far.old ≡ 65536) × (length near.old ≡ 65536) × (Fits sink room.old) }
 {
     let g = rules::geometry_of(header.rate, header.ceiling);
@@ -116,7 +117,7 @@ fn opened(
     watched: Watch,
     files: &Files<'_>,
     log: Option<&File>,
-) -> Outcome
+) -> Result<Found, Failure>
     requires { (AllWithin inputs) × (FitsAny sink) }
 {
     let mut event_bytes = rooms::large();
@@ -160,13 +161,13 @@ fn run_in(
     goal: Goal,
     watched: Watch,
     room: &mut [u8],
-) -> Outcome
+) -> Result<Found, Failure>
     requires { length room.old ≡ 65536 }
 {
     let sink = replay_sink::fresh(goal, watched);
     let head = recording_head::read(files.events, most.events, room);
     if let Some(why) = head.failed {
-        return Outcome::Unread(1, why);
+        return Err(Failure::Unread(Input::Entries, why));
     }
     match recording_head::opened(head, room) {
         None => replay_close::unopened(out, sink, watched, log, room),
@@ -191,7 +192,7 @@ pub fn run(
     most: Most,
     goal: Goal,
     watched: Watch,
-) -> Outcome {
+) -> Result<Found, Failure> {
     let mut room = rooms::large();
     run_in(out, files, log, most, goal, watched, &mut room)
 }

@@ -6,8 +6,8 @@ ghost use Rattle.std.specs.Prelude.{◌≡◌, ◌^◌, ◌-◌, length};
 ghost use Rattle.replay_inputs.specs.Inputs.{AllWithin, AllPassed, OneRead, WentOn, ended_at};
 
 use pipes::reason::Reason;
+use pipes::window;
 use pipes::window::Window;
-use pipes::{reason, window};
 use recording::Header;
 use replay_stream::{Answer, Bytes, Ended, Input};
 use std::fs::File;
@@ -48,25 +48,17 @@ impl Most {
     }
 }
 
-fn least(a: u64, b: u64) -> u64 {
-    if a < b { a } else { b }
-}
-
 // Behind the header no byte past what it announces is read.
 pub fn announced(header: Header, most: Most) -> Inputs
     ensures { AllWithin result }
 {
     let form = header.form;
     let offset = recording::offset_of(form) as u64;
-    let far_bytes = recording::bytes_of(form, header.far);
-    let near_bytes = recording::bytes_of(form, header.near);
+    let entries = 16 * header.events as u64;
     Inputs {
-        events: window::fresh(least(
-            answers::saturating_sub(most.events, offset),
-            16 * header.events as u64,
-        )),
-        far: window::fresh(least(most.far, far_bytes)),
-        near: window::fresh(least(most.near, near_bytes)),
+        events: window::fresh(most.events.saturating_sub(offset).min(entries)),
+        far: window::fresh(most.far.min(recording::bytes_of(form, header.far))),
+        near: window::fresh(most.near.min(recording::bytes_of(form, header.near))),
     }
 }
 
@@ -104,24 +96,18 @@ fn refill(
     requires { (AllWithin inputs) × (length events.old ≡ 65536) × (length far.old ≡ 65536) × (length near.old ≡ 65536) }
     ensures { OneRead wanted inputs events.old far.old near.old result events.new far.new near.new }
 {
-    let e = inputs.events;
-    let f = inputs.far;
-    let n = inputs.near;
     match wanted {
         Input::Entries => Inputs {
-            events: window::refill(e, files.events, events),
-            far: f,
-            near: n,
+            events: window::refill(inputs.events, files.events, events),
+            ..inputs
         },
         Input::FarSide => Inputs {
-            events: e,
-            far: window::refill(f, files.far, far),
-            near: n,
+            far: window::refill(inputs.far, files.far, far),
+            ..inputs
         },
         Input::NearSide => Inputs {
-            events: e,
-            far: f,
-            near: window::refill(n, files.near, near),
+            near: window::refill(inputs.near, files.near, near),
+            ..inputs
         },
     }
 }
@@ -141,33 +127,19 @@ pub fn go_on(
 {
     let rest = past(inputs, used);
     match answer {
-        Answer::Says(_line) => rest,
-        Answer::Silent => rest,
         Answer::Wants(input) => refill(rest, input, files, events, far, near),
-        Answer::Over => rest,
+        Answer::Says(_) | Answer::Silent | Answer::Over => rest,
     }
 }
 
-// 0 where none has failed, else the number of the first input that has.
-pub fn failed(inputs: Inputs) -> u8 {
-    if inputs.events.failed.is_some() {
-        return 1;
+// The first input of which a read has failed, and why.
+pub fn failed(inputs: Inputs) -> Option<(Input, Reason)> {
+    if let Some(why) = inputs.events.failed {
+        return Some((Input::Entries, why));
     }
-    if inputs.far.failed.is_some() {
-        return 2;
+    if let Some(why) = inputs.far.failed {
+        return Some((Input::FarSide, why));
     }
-    if inputs.near.failed.is_some() {
-        return 3;
-    }
-    0
-}
-
-// Why that one has.
-pub fn reason_of(inputs: Inputs) -> Reason {
-    inputs
-        .events
-        .failed
-        .or(inputs.far.failed)
-        .or(inputs.near.failed)
-        .unwrap_or(reason::none())
+    let why = inputs.near.failed?;
+    Some((Input::NearSide, why))
 }

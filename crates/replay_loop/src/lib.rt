@@ -2,7 +2,7 @@
 // read, line by line; and the verdict on a log that is checked is the one on the bytes that were read.
 #![tactic(auto)]
 
-ghost use Rattle.std.specs.Prelude.{◌≡◌, true, false, ◌-◌, ◌^◌, ◌<◌, length};
+ghost use Rattle.std.specs.Prelude.{◌≡◌, true, false, length};
 ghost use Rattle.scan_score.specs.Observing.{lent};
 ghost use Rattle.replay_inputs.specs.Inputs.{AllWithin};
 ghost use Rattle.replay_sink.specs.Sink.{Fits, Open};
@@ -13,24 +13,16 @@ use replay_inputs::Files;
 use replay_step::Stream;
 use std::fs::File;
 
-// Until the log is over, no line is of use any more, or a read fails. The turns are counted so that the loop ends for certain: 2^64 of them take centuries.
-fn goes_on(stream: Stream, turns: u64) -> bool
-    ensures { result ≡ true → (turns < 2 ^ 64 - 1) × (stream.over ≡ false) × (Open stream.sink) }
+// Until the log is over, no line is of use any more, or a read fails.
+fn goes_on(stream: Stream) -> bool
+    ensures { result ≡ true → (stream.over ≡ false) × (Open stream.sink) }
 {
-    if turns == u64::MAX {
-        return false;
-    }
-    if stream.over {
-        return false;
-    }
-    if replay_inputs::failed(stream.inputs) != 0 {
-        return false;
-    }
-    let sink = stream.sink;
-    replay_sink::goes_on(sink)
+    !stream.over
+        && replay_inputs::failed(stream.inputs).is_none()
+        && replay_sink::goes_on(stream.sink)
 }
 
-// Line by line.
+// Line by line. The turns are counted so that the loop ends for certain: 2^64 of them take centuries.
 pub fn all(
     header: Header,
     first: Stream,
@@ -52,13 +44,14 @@ pub fn all(
     ensures { (Played header first (lent envelope.old levels.old window.old prefix.old squares.old scores.old lag_sums.old) events.old far.old near.old room.old result (lent envelope.new levels.new window.new prefix.new squares.new scores.new lag_sums.new) events.new far.new near.new room.new) × (Fits result.sink room.new) }
 {
     let mut stream = first;
-    let mut turns: u64 = 0;
-    while goes_on(stream, turns) {
+    for _turn in 0..u64::MAX {
+        if !goes_on(stream) {
+            return stream;
+        }
         stream = replay_step::turn(
             header, stream, files, log, events, far, near, envelope, levels, window, prefix,
             squares, scores, lag_sums, room,
         );
-        turns = turns + 1;
     }
     stream
 }

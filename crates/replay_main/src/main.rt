@@ -3,19 +3,21 @@
 
 use pipes::reason::Reason;
 use pipes::{named, rooms, told};
-use replay_close::Outcome;
+use replay_close::{Failure, Found};
 use replay_inputs::{Files, Most};
 use replay_sink::Goal;
+use replay_stream::Input;
 use std::fs::File;
 use std::io::Stderr;
 use std::process::ExitCode;
 
-fn name_unread(err: Stderr, input: u8, why: Reason, events: &[u8], far: &[u8], near: &[u8]) {
-    match input {
-        1 => named::fail(err, b"replay", events, why),
-        2 => named::fail(err, b"replay", far, why),
-        _ => named::fail(err, b"replay", near, why),
-    }
+fn name_unread(err: Stderr, input: Input, why: Reason, events: &[u8], far: &[u8], near: &[u8]) {
+    let name = match input {
+        Input::Entries => events,
+        Input::FarSide => far,
+        Input::NearSide => near,
+    };
+    named::fail(err, b"replay", name, why);
 }
 
 // A reader that has gone away has had what it wanted.
@@ -28,17 +30,27 @@ fn unwritten(err: Stderr, why: Reason) -> u64 {
 }
 
 // What the program ends with: 0, 1 where a file could not be read or written, which standard error names, or 4 where the log has a refusal or a `bad` line.
-fn status_of(err: Stderr, outcome: Outcome, events: &[u8], far: &[u8], near: &[u8]) -> u64 {
+fn status_of(
+    err: Stderr,
+    outcome: Result<Found, Failure>,
+    events: &[u8],
+    far: &[u8],
+    near: &[u8],
+) -> u64 {
     match outcome {
-        Outcome::Done => 0,
-        Outcome::Amiss => 4,
-        Outcome::Wrong => 3,
-        Outcome::Unread(input, why) => {
+        Ok(Found::Clean) => 0,
+        Ok(Found::Amiss) => 4,
+        Ok(Found::Wrong) => 3,
+        Err(Failure::Unread(input, why)) => {
             name_unread(err, input, why, events, far, near);
             1
         }
-        Outcome::Unwritten(why) => unwritten(err, why),
-        Outcome::Broken => {
+        Err(Failure::UnreadLog(why)) => {
+            named::fail(err, b"replay", b"the log", why);
+            1
+        }
+        Err(Failure::Unwritten(why)) => unwritten(err, why),
+        Err(Failure::Broken) => {
             named::say(err, b"replay", b"the library's answer fits no recording");
             1
         }

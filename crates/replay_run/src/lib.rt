@@ -9,7 +9,7 @@ ghost use Rattle.replay_sink.specs.Sink.{Fits};
 use pipes::told::Watch;
 use recording::Header;
 use replay::{Begun, Session};
-use replay_close::Outcome;
+use replay_close::{Failure, Found};
 use replay_inputs::{Files, Inputs};
 use replay_sink::Sink;
 use replay_step::Stream;
@@ -67,20 +67,17 @@ fn ended(
     scores: &mut [f64],
     lag_sums: &mut [f64],
     room: &mut [u8],
-) -> Outcome
+) -> Result<Found, Failure>
     requires { (AllWithin inputs) × (length events.old ≡ 65536) × (length far.old ≡ 65536) × (length near.old ≡ 65536) × (Fits sink room.old) }
 {
     let last = played(
         header, session, inputs, sink, watched, files, log, events, far, near, envelope, levels,
         window, prefix, squares, scores, lag_sums, room,
     );
-    let sink = last.sink;
-    let unread = replay_inputs::failed(last.inputs);
     replay_close::closed(
         out,
-        sink,
-        unread,
-        replay_inputs::reason_of(last.inputs),
+        last.sink,
+        replay_inputs::failed(last.inputs),
         last.over,
         watched,
         log,
@@ -108,13 +105,13 @@ pub fn started(
     scores: &mut [f64],
     lag_sums: &mut [f64],
     room: &mut [u8],
-) -> Outcome
+) -> Result<Found, Failure>
     requires { (AllWithin inputs) × (length events.old ≡ 65536) × (length far.old ≡ 65536) × (length near.old ≡ 65536) × (Fits sink room.old) }
 {
     match replay::start(
         header, envelope, levels, window, prefix, squares, scores, lag_sums,
     ) {
-        Begun::Refused(_) => Outcome::Broken,
+        Begun::Refused(_) => Err(Failure::Broken),
         Begun::Ready(session) => ended(
             out, header, session, inputs, sink, watched, files, log, events, far, near, envelope,
             levels, window, prefix, squares, scores, lag_sums, room,

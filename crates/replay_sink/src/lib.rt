@@ -66,24 +66,14 @@ pub fn take(sink: Sink, answer: Answer, log: Option<&File>, room: &mut [u8]) -> 
 {
     match answer {
         Answer::Says(line) => hear(sink, line, log, room),
-        Answer::Silent => sink,
-        Answer::Wants(_input) => sink,
-        Answer::Over => sink,
+        Answer::Silent | Answer::Wants(_) | Answer::Over => sink,
     }
 }
 
 fn on_its_way(check: Check) -> bool
     ensures { result ≡ true → check.verdict ≡ Verdict.Going }
 {
-    if check.log.failed.is_some() {
-        return false;
-    }
-    let verdict = check.verdict;
-    match verdict {
-        Verdict::Going => true,
-        Verdict::Accepted => false,
-        Verdict::Wrong(_) => false,
-    }
+    check.log.failed.is_none() && matches!(check.verdict, Verdict::Going)
 }
 
 // Whether another line is of any use.

@@ -49,20 +49,7 @@ pub fn opening(session: Session, inputs: Inputs, sink: Sink, watched: Watch) -> 
 fn is_over(answer: Answer) -> bool
     ensures { result ≡ is_over answer }
 {
-    match answer {
-        Answer::Says(_line) => false,
-        Answer::Silent => false,
-        Answer::Wants(_input) => false,
-        Answer::Over => true,
-    }
-}
-
-fn tell_input(err: Stderr, wanted: Input, done: u32, all: u32) {
-    match wanted {
-        Input::Entries => told::progress(err, b"replay", done as u64, all as u64, b"events"),
-        Input::FarSide => {}
-        Input::NearSide => {}
-    }
+    matches!(answer, Answer::Over)
 }
 
 // A read of the events tells a person how far the replay is: one is made for every 4,096 events.
@@ -70,11 +57,8 @@ fn tell(watched: Watch, answer: Answer, done: u32, all: u32) {
     if !watched.on {
         return;
     }
-    match answer {
-        Answer::Says(_line) => {}
-        Answer::Silent => {}
-        Answer::Wants(input) => tell_input(watched.err, input, done, all),
-        Answer::Over => {}
+    if let Answer::Wants(Input::Entries) = answer {
+        told::progress(watched.err, b"replay", done as u64, all as u64, b"events");
     }
 }
 
@@ -96,16 +80,15 @@ fn heed(
     let place = turned.place;
     let answer = turned.answer;
     let before = stream.inputs;
-    let sink = stream.sink;
     tell(stream.watched, answer, place.number, all);
     let inputs = replay_inputs::go_on(before, turned.used, answer, files, events, far, near);
-    let next = replay_sink::take(sink, answer, log, room);
+    let sink = replay_sink::take(stream.sink, answer, log, room);
     Stream {
         place,
         inputs,
-        sink: next,
+        sink,
         over: is_over(answer),
-        watched: stream.watched,
+        ..stream
     }
 }
 
@@ -130,11 +113,20 @@ pub fn turn(
     requires { (AllWithin stream.inputs) × (length events.old ≡ 65536) × (length far.old ≡ 65536) × (length near.old ≡ 65536) × (Fits stream.sink room.old) }
     ensures { (Turn header stream (lent envelope.old levels.old window.old prefix.old squares.old scores.old lag_sums.old) events.old far.old near.old room.old result (lent envelope.new levels.new window.new prefix.new squares.new scores.new lag_sums.new) events.new far.new near.new room.new) × (Fits result.sink room.new) }
 {
-    let place = stream.place;
-    let inputs = stream.inputs;
     let turned = replay_ask::ask(
-        header, place, inputs, events, far, near, envelope, levels, window, prefix, squares,
-        scores, lag_sums,
+        header,
+        stream.place,
+        stream.inputs,
+        events,
+        far,
+        near,
+        envelope,
+        levels,
+        window,
+        prefix,
+        squares,
+        scores,
+        lag_sums,
     );
     heed(
         header.events,

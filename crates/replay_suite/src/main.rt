@@ -3,7 +3,7 @@
 #![tactic(auto)]
 
 use pipes::{named, told};
-use replay_close::Outcome;
+use replay_close::{Failure, Found};
 use replay_inputs::Most;
 use replay_sink::Goal;
 use std::fs::File;
@@ -39,18 +39,20 @@ fn go_to_all(files: &Files, places: Places) {
 }
 
 // A log without a verdict is not passed over in silence.
-fn judge(err: Stderr, outcome: Outcome) {
+fn judge(err: Stderr, outcome: Result<Found, Failure>) {
     match outcome {
-        Outcome::Done => {}
-        Outcome::Amiss => {}
-        Outcome::Wrong => {}
-        Outcome::Unread(_, _) => named::say(err, b"replay_suite", b"a file could not be read"),
-        Outcome::Unwritten(_) => named::say(
+        Ok(_) => {}
+        Err(Failure::Unread(_, _) | Failure::UnreadLog(_)) => named::say(
+            err,
+            b"replay_suite",
+            b"a file could not be read",
+        ),
+        Err(Failure::Unwritten(_)) => named::say(
             err,
             b"replay_suite",
             b"a verdict could not be written",
         ),
-        Outcome::Broken => named::say(
+        Err(Failure::Broken) => named::say(
             err,
             b"replay_suite",
             b"the library's answer fits no recording",
