@@ -143,8 +143,8 @@ uint32_t tmv_version(void);
 #define TMV_PEAK_CANDIDATE 17    /* fine_peak::PeakAnswer::Candidate: values are the delay in samples, the peak's first position, its ratio to the mean (an f64 pattern), and its last position */
 
 /* from tmv_fine_last_scan_peak_at */
-#define TMV_POSITION_NOTHING 16 /* fine::tell_place::None: there has been no scan yet */
-#define TMV_POSITION_AT 17      /* fine::tell_place::Some: the first position is in values[0], the last in values[1]; they differ if it was a tie */
+#define TMV_POSITION_NOTHING 16 /* fine_words::tell_place::None: there has been no scan yet */
+#define TMV_POSITION_AT 17      /* fine_words::tell_place::Some: the first position is in values[0], the last in values[1]; they differ if it was a tie */
 
 /* ---- kinds of cycle, for tmv_tracker_on_cycle */
 
