@@ -195,7 +195,10 @@ fn judge(fine: Fine, near: &[f32], far: &[f32], missing_head: u64, missing_tail:
 fn readable(fine: Fine, near: &[f32], far: &[f32], missing_head: u64, missing_tail: u64) -> bool
     ensures { result ≡ Gate.readable fine near.now far.now missing_head missing_tail }
 {
-    skips(fine, missing_head, missing_tail) || folds::all_finite(near) && folds::all_finite(far)
+    if skips(fine, missing_head, missing_tail) {
+        return true;
+    }
+    folds::all_finite(near) && folds::all_finite(far)
 }
 
 fn gate_refusal(
