@@ -39,7 +39,9 @@ fn flagged(record: &Record, k: u8) -> bool {
 
 // The tracker that a record holds.
 fn stored(record: &Record) -> Tracker {
+    let rate = vectors::number32(record, 4);
     Tracker {
+        rate, // a making that is refused hands out the tracker of another rate
         pending: delay(record, flagged(record, 1), 32),
         prev: delay(record, flagged(record, 2), 40),
         edges: vectors::number32(record, 48),
@@ -47,7 +49,7 @@ fn stored(record: &Record) -> Tracker {
         unconfident: vectors::number32(record, 56),
         suspect: flagged(record, 4),
         largest: vectors::number32(record, 60),
-        ..Tracker::new(vectors::number32(record, 4)).tracker
+        ..Tracker::new(rate).tracker
     }
 }
 

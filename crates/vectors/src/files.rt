@@ -1,5 +1,6 @@
 // The files of a suite: records of one length, one after the other, and rows of numbers in a record.
 ghost use Rattle.std.specs.Iterator.{at_most};
+ghost use Rattle.std.specs.Prelude.{◌≡◌};
 
 use pipes::{named, rooms};
 use std::fs::{File, OpenOptions};
@@ -15,16 +16,53 @@ pub fn open(rt: HostRuntime, path: &[u8]) -> Option<File> {
     }
 }
 
-// The whole records of a file that are left, so many at most.
+// The whole records of a file that are left, so many at most. They are cut from a room that the file fills again and again: with a read for each record a
+// suite took up to three times as long.
 #[derive(Drop)]
 pub struct Records<'a, const N: usize> {
     from: Option<&'a File>,
     most: u32,
+    room: [u8; 65536],
+    at: usize,
+    end: usize,
 }
 
 impl<'a, const N: usize> Records<'a, N> {
-    pub fn of(from: Option<&'a File>, most: u32) -> Records<'a, N> {
-        Records { from, most }
+    pub fn of(from: Option<&'a File>, most: u32) -> Records<'a, N>
+        ensures { result.most ≡ most }
+    {
+        Records {
+            from,
+            most,
+            room: rooms::large(),
+            at: 0,
+            end: 0,
+        }
+    }
+
+    // A record that no room holds is read by itself.
+    fn read(&self) -> Option<[u8; N]> {
+        let mut record = [0u8; N];
+        let n = rooms::fill(self.from, &mut record);
+        if n == N { Some(record) } else { None }
+    }
+
+    // The record that stands next in the room.
+    fn cut(&self) -> Option<[u8; N]> {
+        let found = self.room.get(self.at..self.end)?.get(..N)?;
+        let mut record = [0u8; N];
+        record.copy_from_slice(found);
+        Some(record)
+    }
+
+    // Fills the room with whole records, as many as it holds.
+    fn refill(&mut self)
+        ensures { self.new.most ≡ self.old.most }
+    {
+        let room = self.room.len();
+        let over = if N == 0 { 0 } else { room % N };
+        self.at = 0;
+        self.end = rooms::fill(self.from, &mut self.room[..room - over]);
     }
 }
 
@@ -38,9 +76,15 @@ impl<'a, const N: usize> Iterator for Records<'a, N> {
             return None;
         }
         self.most -= 1;
-        let mut record = [0u8; N];
-        let n = rooms::fill(self.from, &mut record);
-        if n == N { Some(record) } else { None }
+        if self.room.len() < N {
+            return self.read();
+        }
+        if self.end.saturating_sub(self.at) < N {
+            self.refill();
+        }
+        let record = self.cut()?;
+        self.at = self.at.saturating_add(N);
+        Some(record)
     }
 
     // The one that every iterator has asks for an N below 2^63.
