@@ -64,12 +64,14 @@ fn refusal(fine: Fine, near_len: usize, samples: &[f32]) -> u8
     0
 }
 
-// Puts the first n samples into the frame, from one place on.
+// Puts the first n samples into the frame, from one place on. (`copy_from_slice` would be a call of memmove.)
 fn fill(near: &mut [f32], at: usize, samples: &[f32], n: usize)
     requires { (at + n ≤ length near.old) × (n ≤ length samples.now) }
     ensures { near.new ≡ paste near.old at samples.now n }
 {
-    near[at..at + n].copy_from_slice(&samples[..n]);
+    for i in 0..n {
+        near[at + i] = samples[i];
+    }
 }
 
 // Counts n samples in the state, and tells whether they completed the frame.

@@ -6,12 +6,14 @@ ghost use Rattle.ring_window.specs.Cuts.{Fitting, pieces};
 use crate::Cut;
 use crate::blanks::blank;
 
-// Copies n patterns of the buffer, from one slot on.
+// Copies n patterns of the buffer, from one slot on. (`copy_from_slice` would be a call of memmove.)
 fn copy(window: &mut [u32], to: usize, buf: &[u32], slot: usize, n: usize)
     requires { (to + n ≤ length window.old) × (slot + n ≤ length buf.now) }
     ensures { window.new ≡ paste window.old to (drop slot buf.now) n }
 {
-    window[to..to + n].copy_from_slice(&buf[slot..slot + n]);
+    for i in 0..n {
+        window[to + i] = buf[slot + i];
+    }
 }
 
 // The same stands in values.rt: patterns are copied as a block, floats are made one by one. One function would take a closure for that, and its contract one more fact about it.
