@@ -1,12 +1,15 @@
 -- The promises of 16-bit samples: nothing is rounded, and two numbers have two patterns.
 use mathlib.Core.Path.{◌≡◌, refl, sym, ap, ◌∙◌}
-use mathlib.Core.Bool.{Bool, true, false, not, true≢false}
+use mathlib.Core.Bool.{Bool, true, false, true≢false}
 use mathlib.Core.Logic.{inl, inr}
 use Prim.Native.Nat.{ℕ, suc, ◌-◌, ◌*◌, ◌^◌, ◌<◌, ◌≤◌}
 use native.Mathlib.Nat.{mul_assoc, mul_right_comm, eq_of_mul-eq-mul_right, lt_of_lt_of_le}
 use native.Mathlib.Omega.{arith}
 use lib.Dec.{T, ltb, leb, lit≤}
 use lib.Pow.{pow_mono, shl_lt}
+use mir.Syntax.{w16}
+use mir.Val.{to_z}
+use mir.ValLaws.{to_z_pos, to_z-neg}
 use lib.IntN.{pos, negsuc}
 use lib.Ieee.{Float, nan, inf, fin, binary32, up, down, size, round, units, odd, climb, of_int, div, unlike, neg, of_bits, of_fields, to_bits, fits}
 use lib.Ieee.Back.{round_whole}
@@ -100,28 +103,24 @@ module _ (n : ℕ) where
   unfolding quotient_bits
   read_back = of_bits-to_bits binary32 (short_sample n) short_fits
 
--- ---- the divisions of the code
+-- ---- the division of the code
 
 divisor_bits : of_bits binary32 1191182336 ≡ of_int binary32 (pos 32768)
 unfolding of_bits of_fields of_int round size lib.Ieee.span climb units odd lib.Count.count_trailing_zeros
 divisor_bits = refl
 
-negated : (x : Float) (s : Bool) (a c : ℕ) → HasValue x s a c → HasValue (neg x) (not s) a c
-unfolding neg
-negated nan s a c v = absurd v
-negated (inf t) s a c v = absurd v
-negated (fin t m e) s a c v = (ap not v.0, v.1)
+-- Rust's two's complement is that of the definition
+cast : (n : ℕ) → n < 65536 → to_z w16 n ≡ signed n
+cast n h = elim (le_or_lt 32768 n) [
+  | inl a ↦
+      let e : n ≡ 65536 - suc (65535 - n) = omega arith in
+      ap (to_z w16) e ∙ to_z-neg w16 (65535 - n) (omega arith) ∙ sym (below_zero n a).0
+  | inr b ↦ to_z_pos w16 n b ∙ sym (at_least_zero n b).0
+]
 
-pub at_least_zero_divided : (n : ℕ) → n < 32768 → div binary32 (of_int binary32 (pos n)) (of_bits binary32 1191182336) ≡ short_sample n
+pub cast_divided : (n : ℕ) → n < 65536 → div binary32 (of_int binary32 (to_z w16 n)) (of_bits binary32 1191182336) ≡ short_sample n
 unfolding short_sample
-at_least_zero_divided n h = rw (divisor_bits, (at_least_zero n h).0)
-
-pub below_zero_divided : (n : ℕ) → 32768 ≤ n → n < 65536 → div binary32 (neg (of_int binary32 (pos (65536 - n)))) (of_bits binary32 1191182336) ≡ short_sample n
-unfolding of_int
-below_zero_divided n h l =
-    let m = 65536 - n in
-    rw (divisor_bits, quotient n l, (below_zero n h).1, (below_zero n h).2)
-    (divided (neg (round binary32 false m 1)) true m (negated (round binary32 false m 1) false m 1 (whole_short false m (omega arith))))
+cast_divided n h = rw (divisor_bits, cast n h)
 
 -- ---- two numbers have two samples, and two patterns
 

@@ -10,14 +10,11 @@ const SIGN: u32 = 0x8000_0000;
 // The weight of the exponent's field of an f32's pattern, which is also that of the leading digit.
 const LEADING: u32 = 0x80_0000;
 
-// Gives the sample that 16 bits mean: the signed number divided by 32,768.
+// Gives the sample that 16 bits mean: the signed number divided by 32,768. It has no branch on the sign, which a processor foretells badly in sound.
 pub fn value(n: u16) -> f32
     ensures { result ≡ short_sample n }
 {
-    if n < 32768 {
-        return n as f32 / 32768.0;
-    }
-    -((65536 - n as u32) as f32) / 32768.0
+    n.cast_signed() as f32 / 32768.0
 }
 
 // Gives the f32 pattern of that sample.
