@@ -10,8 +10,8 @@ use lib.Pow.{pow_mono, shl_lt}
 use mir.Syntax.{w16}
 use mir.Val.{to_z}
 use mir.ValLaws.{to_z_pos, to_z-neg}
-use lib.IntN.{pos, negsuc}
-use lib.Ieee.{Float, nan, inf, fin, binary32, up, down, size, round, units, odd, climb, of_int, div, unlike, neg, of_bits, of_fields, to_bits, fits}
+use lib.IntN.{ℤ, pos, negsuc}
+use lib.Ieee.{Float, nan, inf, fin, binary32, up, down, size, round, units, odd, climb, of_int, div, unlike, of_bits, of_fields, to_bits, fits}
 use lib.Ieee.Back.{round_whole}
 use lib.Ieee.Bits.{of_bits-to_bits}
 use lib.Ieee.Exact.{HasValue, round_exact}
@@ -118,9 +118,10 @@ cast n h = elim (le_or_lt 32768 n) [
   | inr b ↦ to_z_pos w16 n b ∙ sym (at_least_zero n b).0
 ]
 
-pub cast_divided : (n : ℕ) → n < 65536 → div binary32 (of_int binary32 (to_z w16 n)) (of_bits binary32 1191182336) ≡ short_sample n
+-- what the code converts is the signed number, and what it divides by is 32,768
+pub cast_divided : {z : ℤ} {d : Float} (n : ℕ) → n < 65536 → z ≡ to_z w16 n → d ≡ of_bits binary32 1191182336 → div binary32 (of_int binary32 z) d ≡ short_sample n
 unfolding short_sample
-cast_divided n h = rw (divisor_bits, cast n h)
+cast_divided n h e f = rw (e, f, divisor_bits, cast n h)
 
 -- ---- two numbers have two samples, and two patterns
 

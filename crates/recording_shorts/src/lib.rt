@@ -10,7 +10,7 @@ const SIGN: u32 = 0x8000_0000;
 // The weight of the exponent's field of an f32's pattern, which is also that of the leading digit.
 const LEADING: u32 = 0x80_0000;
 
-// Gives the sample that 16 bits mean: the signed number divided by 32,768. It has no branch on the sign, which a processor foretells badly in sound.
+// Gives the sample that 16 bits mean: the signed number divided by 32,768. There is no branch on the sign: in noise a processor foretells it badly.
 pub fn value(n: u16) -> f32
     ensures { result ≡ short_sample n }
 {
